@@ -1,0 +1,224 @@
+-- Laws of answers and of chains of refusals.
+--
+--   chain-refuses   a chain answers the number n exactly when n's line holds and no earlier one does
+--   chain-gives     it gives its value exactly when no line holds
+--   refusal-clear   the number of the first broken rule is 0 where no rule is broken
+--   one-answer      two answers with one reading are one answer
+--   reflects-*      tests that decide what is made of statements
+use mathlib.Core.Path.{_≡_, refl, sym, _∙_, ap}
+use mathlib.Core.Logic.{_⊎_, inl, inr, _↔_}
+use mathlib.Core.Bool.{Bool, true, false, cond, not, _||_, _&&_, true≢false, false≢true}
+use mathlib.Core.List.{List, [], _∷_, _++_}
+use Prim.Native.Nat.{ℕ, zero, suc, _≤_, _<_}
+use native.Mathlib.Omega.{arith}
+use lib.Dec.{ltb, leb, eqb}
+use lib.IntN.{ℤ, pos, negsuc, pos-ne-negsuc}
+use borrow.Author.Tests.{ltb-true, ltb-false, leb-true, leb-false, eqb-true, eqb-false}
+use Rattle.algebra.specs.Answer.{Answer, gives, refuses, Rule, chain, refusal, Numbered, Line, First, Clear, Reflects, holds, fails, Decides}
+use Rattle.algebra.specs.Sign.{signOf, Pos, Neg, isMinus, isNought, isPlus, eqZ}
+use Rattle.algebra.proofs.SignLaws.{pos-zero, pos-np, neg-nn}
+
+-- ---- the two kinds of answer
+
+pub given-refused : {A : Type 0} {X : Type 0} {v : A} {n : ℕ} → gives v ≡ refuses n → X
+given-refused {A} {X} {v} {n} e = let z : _≡_ {A = ℕ} 0 1 = cc in absurd (clash z)
+  where
+    clash : _≡_ {A = ℕ} 0 1 → ⊥
+    clash z = omega arith
+
+pub refuses-one : {A : Type 0} {m n : ℕ} → _≡_ {A = Answer A} (refuses m) (refuses n) → m ≡ n
+refuses-one e = cc
+
+pub gives-one : {A : Type 0} {v w : A} → gives v ≡ gives w → v ≡ w
+gives-one e = cc
+
+-- an answer is known by its reading, where the reading can be undone
+pub one-answer : {E A : Type 0} (read : E → A) (back : A → E) → ((r : E) → back (read r) ≡ r) → {x : A} {r r′ : E} → read r ≡ x → read r′ ≡ x → r ≡ r′
+one-answer read back undone {x} {r} {r′} p q = sym (undone r) ∙ ap back (p ∙ sym q) ∙ undone r′
+
+-- ---- chains
+
+module _ {A : Type 0} where
+  pub chain-refuses : (rs : List Rule) (ls : List Line) (v : A) (n : ℕ) → Decides rs ls → (chain rs v ≡ refuses n) ↔ First n ls
+  unfolding chain
+  chain-refuses [] [] v n d = (λ e. given-refused e, λ f. absurd f)
+  chain-refuses [] (l ∷ ls) v n d = absurd d
+  chain-refuses (r ∷ rs) [] v n d = absurd d
+  chain-refuses (r ∷ rs) (l ∷ ls) v n d = go (r .broken) (d .1) (chain-refuses rs ls v n (d .2))
+    where
+      go : (b : Bool) → Reflects (l .when) b → (chain rs v ≡ refuses n) ↔ First n ls → (cond b (refuses (r .number)) (chain rs v) ≡ refuses n) ↔ First n (l ∷ ls)
+      go true (holds h) ih = (λ e. inl (h, sym (refuses-one e) ∙ d .0), out)
+        where
+          out : First n (l ∷ ls) → _≡_ {A = Answer A} (refuses (r .number)) (refuses n)
+          out (inl p) = ap refuses (d .0 ∙ sym (p .1))
+          out (inr p) = absurd (p .0 h)
+      go false (fails h) ih = (λ e. inr (h, ih .0 e), out)
+        where
+          out : First n (l ∷ ls) → chain rs v ≡ refuses n
+          out (inl p) = absurd (h (p .0))
+          out (inr p) = ih .1 (p .1)
+
+  pub chain-gives : (rs : List Rule) (ls : List Line) (v w : A) → Decides rs ls → (chain rs v ≡ gives w) ↔ (Clear ls × (v ≡ w))
+  unfolding chain
+  chain-gives [] [] v w d = (λ e. (tt, gives-one e), λ p. ap gives (p .1))
+  chain-gives [] (l ∷ ls) v w d = absurd d
+  chain-gives (r ∷ rs) [] v w d = absurd d
+  chain-gives (r ∷ rs) (l ∷ ls) v w d = go (r .broken) (d .1) (chain-gives rs ls v w (d .2))
+    where
+      go : (b : Bool) → Reflects (l .when) b → (chain rs v ≡ gives w) ↔ (Clear ls × (v ≡ w)) → (cond b (refuses (r .number)) (chain rs v) ≡ gives w) ↔ (Clear (l ∷ ls) × (v ≡ w))
+      go true (holds h) ih = (λ e. given-refused (sym e), λ p. absurd (p .0 .0 h))
+      go false (fails h) ih = (λ e. let r = ih .0 e in ((h, r .0), r .1), λ p. ih .1 (p .0 .1, p .1))
+
+  -- what a sequence of tests in the code has shown, and what that says of the chain
+  pub chain-broken : (r : Rule) (rs : List Rule) (v : A) → r .broken ≡ true → refuses (r .number) ≡ chain (r ∷ rs) v
+  unfolding chain
+  chain-broken r rs v e = rw e
+
+  pub chain-kept : (r : Rule) (rs : List Rule) (v : A) → r .broken ≡ false → chain rs v ≡ chain (r ∷ rs) v
+  unfolding chain
+  chain-kept r rs v e = rw e
+
+  -- a first part of the chain whose number is known: it stops there, or goes on behind it
+  pub chain-stop : (rs ss : List Rule) (v : A) → (refusal rs ≡ 0 → ⊥) → refuses (refusal rs) ≡ chain (rs ++ ss) v
+  unfolding chain refusal
+  chain-stop [] ss v h = absurd (h refl)
+  chain-stop (r ∷ rs) ss v h = go (r .broken) refl (chain-stop rs ss v)
+    where
+      go : (b : Bool) → r .broken ≡ b → ((refusal rs ≡ 0 → ⊥) → refuses (refusal rs) ≡ chain (rs ++ ss) v) → refuses (cond b (r .number) (refusal rs)) ≡ cond b (refuses (r .number)) (chain (rs ++ ss) v)
+      go true e ih = refl
+      go false e ih = ih (λ z. h (rw e z))
+
+  pub chain-after : (rs ss : List Rule) (v : A) → Numbered rs → refusal rs ≡ 0 → chain ss v ≡ chain (rs ++ ss) v
+  unfolding chain refusal
+  chain-after [] ss v p h = refl
+  chain-after (r ∷ rs) ss v p h = go (r .broken) refl (chain-after rs ss v (p .1))
+    where
+      go : (b : Bool) → r .broken ≡ b → (refusal rs ≡ 0 → chain ss v ≡ chain (rs ++ ss) v) → chain ss v ≡ cond b (refuses (r .number)) (chain (rs ++ ss) v)
+      go true e ih = absurd (clash (rw e at h))
+        where
+          clash : r .number ≡ 0 → ⊥
+          clash z = omega (arith, p .0)
+      go false e ih = ih (rw e at h)
+
+-- the number of the first broken rule decides whether a rule is broken
+pub refusal-keeps : (r : Rule) (rs : List Rule) → 0 < r .number → refusal (r ∷ rs) ≡ 0 → (r .broken ≡ false) × (refusal rs ≡ 0)
+unfolding refusal
+refusal-keeps r rs p h = go (r .broken) refl
+  where
+    go : (b : Bool) → r .broken ≡ b → (r .broken ≡ false) × (refusal rs ≡ 0)
+    go true e = absurd (clash (rw e at h))
+      where
+        clash : r .number ≡ 0 → ⊥
+        clash z = omega arith
+    go false e = (e, rw e at h)
+
+-- lines joined: the first of the one list, or none there and the first of the other
+pub first-append : (n : ℕ) (ks ls : List Line) → First n (ks ++ ls) ↔ (First n ks ⊎ (Clear ks × First n ls))
+first-append n [] ls = (λ f. inr (tt, f), out)
+  where
+    out : ⊥ ⊎ (Unit {0} × First n ls) → First n ls
+    out (inl p) = absurd p
+    out (inr p) = p .1
+first-append n (k ∷ ks) ls = (into (first-append n ks ls .0), out (first-append n ks ls .1))
+  where
+    into : (First n (ks ++ ls) → First n ks ⊎ (Clear ks × First n ls)) → First n (k ∷ (ks ++ ls)) → First n (k ∷ ks) ⊎ (Clear (k ∷ ks) × First n ls)
+    into ih (inl p) = inl (inl p)
+    into ih (inr p) = go (ih (p .1))
+      where
+        go : First n ks ⊎ (Clear ks × First n ls) → First n (k ∷ ks) ⊎ (Clear (k ∷ ks) × First n ls)
+        go (inl q) = inl (inr (p .0, q))
+        go (inr q) = inr ((p .0, q .0), q .1)
+
+    out : (First n ks ⊎ (Clear ks × First n ls) → First n (ks ++ ls)) → First n (k ∷ ks) ⊎ (Clear (k ∷ ks) × First n ls) → First n (k ∷ (ks ++ ls))
+    out ih (inl (inl p)) = inl p
+    out ih (inl (inr p)) = inr (p .0, ih (inl (p .1)))
+    out ih (inr p) = inr (p .0 .0, ih (inr (p .0 .1, p .1)))
+
+pub decides-append : (rs ss : List Rule) (ks ls : List Line) → Decides rs ks → Decides ss ls → Decides (rs ++ ss) (ks ++ ls)
+decides-append [] ss [] ls d e = e
+decides-append [] ss (k ∷ ks) ls d e = absurd d
+decides-append (r ∷ rs) ss [] ls d e = absurd d
+decides-append (r ∷ rs) ss (k ∷ ks) ls d e = (d .0, d .1, decides-append rs ss ks ls (d .2) e)
+
+-- ---- tests that decide statements
+
+pub reflects-yes : {A : Type 0} {b : Bool} → Reflects A b → b ≡ true → A
+reflects-yes (holds h) e = h
+reflects-yes (fails h) e = absurd (false≢true e)
+
+pub reflects-no : {A : Type 0} {b : Bool} → Reflects A b → b ≡ false → A → ⊥
+reflects-no (holds h) e x = true≢false e
+reflects-no (fails h) e x = h x
+
+pub reflects-true : {A : Type 0} {b : Bool} → Reflects A b → A → b ≡ true
+reflects-true (holds h) a = refl
+reflects-true (fails h) a = absurd (h a)
+
+pub reflects-false : {A : Type 0} {b : Bool} → Reflects A b → (A → ⊥) → b ≡ false
+reflects-false (holds h) k = absurd (k h)
+reflects-false (fails h) k = refl
+
+pub reflects-by : {A : Type 0} (b : Bool) → (b ≡ true → A) → (b ≡ false → A → ⊥) → Reflects A b
+reflects-by true f g = holds (f refl)
+reflects-by false f g = fails (g refl)
+
+pub reflects-iff : {A B : Type 0} {b : Bool} → A ↔ B → Reflects A b → Reflects B b
+reflects-iff e (holds h) = holds (e .0 h)
+reflects-iff e (fails h) = fails (λ x. h (e .1 x))
+
+pub reflects-not : {A : Type 0} {b : Bool} → Reflects A b → Reflects (A → ⊥) (not b)
+reflects-not (holds h) = fails (λ k. k h)
+reflects-not (fails h) = holds h
+
+pub reflects-or : {A B : Type 0} {a b : Bool} → Reflects A a → Reflects B b → Reflects (A ⊎ B) (a || b)
+reflects-or (holds h) k = holds (inl h)
+reflects-or (fails h) (holds k) = holds (inr k)
+reflects-or {A} {B} (fails h) (fails k) = fails neither
+  where
+    neither : A ⊎ B → ⊥
+    neither (inl x) = h x
+    neither (inr x) = k x
+
+pub reflects-and : {A B : Type 0} {a b : Bool} → Reflects A a → Reflects B b → Reflects (A × B) (a && b)
+reflects-and (holds h) (holds k) = holds (h, k)
+reflects-and (holds h) (fails k) = fails (λ p. k (p .1))
+reflects-and (fails h) k = fails (λ p. h (p .0))
+
+pub reflects-ltb : (m n : ℕ) → Reflects (m < n) (ltb m n)
+reflects-ltb m n = reflects-by (ltb m n) (ltb-true m n) (λ e l. clash (ltb-false m n e) l)
+  where
+    clash : n ≤ m → m < n → ⊥
+    clash h l = omega arith
+
+pub reflects-eqb : (m n : ℕ) → Reflects (m ≡ n) (eqb m n)
+reflects-eqb m n = reflects-by (eqb m n) (eqb-true m n) (eqb-false m n)
+
+pub reflects-leb : (m n : ℕ) → Reflects (m ≤ n) (leb m n)
+reflects-leb m n = reflects-by (leb m n) (leb-true m n) (λ e l. clash (leb-false m n e) l)
+  where
+    clash : n < m → m ≤ n → ⊥
+    clash h l = omega arith
+
+pub reflects-eqZ : (a b : ℤ) → Reflects (a ≡ b) (eqZ a b)
+reflects-eqZ (pos m) (pos n) = reflects-iff (λ e. ap pos e, λ e. cc) (reflects-eqb m n)
+reflects-eqZ (pos m) (negsuc n) = fails (pos-ne-negsuc m n)
+reflects-eqZ (negsuc m) (pos n) = fails (λ e. pos-ne-negsuc n m (sym e))
+reflects-eqZ (negsuc m) (negsuc n) = reflects-iff (λ e. ap negsuc e, λ e. cc) (reflects-eqb m n)
+
+pub reflects-plus : (z : ℤ) → Reflects (Pos z) (isPlus (signOf z))
+unfolding signOf
+reflects-plus (pos zero) = fails (λ p. pos-zero p refl)
+reflects-plus (pos (suc n)) = holds (record { by = n; is = refl })
+reflects-plus (negsuc n) = fails (λ p. pos-np p (record { by = suc n; is = refl }))
+
+pub reflects-nought : (z : ℤ) → Reflects (z ≡ pos 0) (isNought (signOf z))
+unfolding signOf
+reflects-nought (pos zero) = holds refl
+reflects-nought (pos (suc n)) = fails (λ e. pos-zero (record { by = n; is = refl }) e)
+reflects-nought (negsuc n) = fails (λ e. pos-ne-negsuc 0 n (sym e))
+
+pub reflects-minus : (z : ℤ) → Reflects (Neg z) (isMinus (signOf z))
+unfolding signOf
+reflects-minus (pos zero) = fails (λ p. pos-zero p refl)
+reflects-minus (pos (suc n)) = fails (λ p. neg-nn p (record { by = suc n; is = refl }))
+reflects-minus (negsuc n) = holds (record { by = n; is = refl })

@@ -1,0 +1,10 @@
+pub mod IntLaws
+pub mod Ring
+pub mod SignLaws
+pub mod SumLaws
+pub mod SizeLaws
+pub mod AnswerLaws
+pub mod LoopLaws
+pub mod PicksLaws
+pub mod ListLaws
+pub mod OverLaws

@@ -1,0 +1,230 @@
+-- What a loop wants of `any`, `first`, `fold`, `tally` and `tabulate`: where it begins, one turn more, where it ends.
+--
+--   any-none, go-on, found, none             a loop that looks for one that passes
+--   first-none, first-on, first-found, first-end    a loop that looks for the first that passes
+--   fold-none, fold-more, fold-end           a loop that builds a value
+--   tally-none, tally-more, tally-end        a loop that counts
+--   length-tabulate, getD-tabulate           how long a table is, and what stands at a place of it
+--   fill-none, fill-more, fill-end           a loop that fills an array with a table, from l₀ on
+--   reflects-any                             `any` decides that some number below the bound has the property
+--   first-passes, first-least                what `first` finds
+use mathlib.Core.Path.{_≡_, refl, sym, _∙_, ap, subst}
+use mathlib.Core.Bool.{Bool, true, false, cond, _||_}
+use mathlib.Core.Logic.{_⊎_, inl, inr, ⊎-elim}
+use mathlib.Core.List.{List, [], _∷_, _++_, append-assoc, append-nil}
+use Prim.Native.Nat.{ℕ, zero, suc, _+_, _*_, _<_, _≤_}
+use native.Mathlib.Omega.{arith}
+use native.Mathlib.Numerals.{add-one}
+use native.Mathlib.Decide.{decLt}
+use native.Mathlib.Nat.{not-suc-le-zero}
+use lib.Dec.{ltb}
+use lib.ListN.{length, getD, drop, set, length-append, drop-of-length-le, List·getD-append}
+use lib.Seq.{drop-cons, set-at, getD-at}
+use borrow.Author.Tests.{lt-ltb, le-ltb}
+use Rattle.algebra.specs.Answer.{Reflects}
+use Rattle.algebra.specs.Loops.{any, first, fold, tally, tabulate}
+use Rattle.algebra.proofs.AnswerLaws.{reflects-by, reflects-yes, reflects-no}
+
+-- below suc n: below n, or n itself
+pub last : (i n : ℕ) → i < suc n → (i < n) ⊎ (i ≡ n)
+last i n h = go (decLt i n)
+  where
+    go : Dec (i < n) → (i < n) ⊎ (i ≡ n)
+    go (yes k) = inl k
+    go (no k) = inr (omega arith)
+
+at-end : {A : Type 0} (f : ℕ → A) (i n : ℕ) {x : A} → i ≤ n → n ≤ i → x ≡ f i → x ≡ f n
+at-end f i n h k p = p ∙ ap f (let e : i ≡ n = omega arith in e)
+
+-- ---- any
+
+or-no : (a b : Bool) → a ≡ false → b ≡ false → (a || b) ≡ false
+or-no true b p q = p
+or-no false b p q = q
+
+or-left : (a b : Bool) → a ≡ true → (a || b) ≡ true
+or-left true b p = refl
+or-left false b p = cc
+
+or-right : (a b : Bool) → b ≡ true → (a || b) ≡ true
+or-right true b p = refl
+or-right false b p = p
+
+or-no-left : (a b : Bool) → (a || b) ≡ false → a ≡ false
+or-no-left true b p = p
+or-no-left false b p = refl
+
+or-no-right : (a b : Bool) → (a || b) ≡ false → b ≡ false
+or-no-right true b p = cc
+or-no-right false b p = p
+
+module _ (f : ℕ → Bool) where
+  pub any-none : any 0 f ≡ false
+  unfolding any
+  any-none = refl
+
+  pub any-yes : (n i : ℕ) → i < n → f i ≡ true → any n f ≡ true
+  unfolding any
+  any-yes zero i h p = absurd (not-suc-le-zero h)
+  any-yes (suc n) i h p = ⊎-elim (λ k. or-left (any n f) (f n) (any-yes n i k p)) (λ e. or-right (any n f) (f n) (ap f (sym e) ∙ p)) (last i n h)
+
+  pub any-no : (n i : ℕ) → any n f ≡ false → i < n → f i ≡ false
+  unfolding any
+  any-no zero i p h = absurd (not-suc-le-zero h)
+  any-no (suc n) i p h = ⊎-elim (λ k. any-no n i (or-no-left (any n f) (f n) p) k) (λ e. ap f e ∙ or-no-right (any n f) (f n) p) (last i n h)
+
+  -- one that passes, where `any` says so
+  pub any-some : (n : ℕ) → any n f ≡ true → (i : ℕ) × (i < n) × (f i ≡ true)
+  unfolding any
+  any-some zero p = absurd (clash p)
+    where
+      clash : _≡_ {A = Bool} false true → ⊥
+      clash e = let z : _≡_ {A = ℕ} 0 1 = cc in omega arith
+  any-some (suc n) p = go (any n f) refl (any-some n)
+    where
+      go : (b : Bool) → any n f ≡ b → (any n f ≡ true → (i : ℕ) × (i < n) × (f i ≡ true)) → (i : ℕ) × (i < suc n) × (f i ≡ true)
+      go true e ih = let r = ih e in (r .0, up (r .1), r .2)
+        where
+          up : {i : ℕ} → i < n → i < suc n
+          up l = omega arith
+      go false e ih = (n, omega arith, rw e at p)
+
+  -- `p : r ≡ f i` is what the callee says of its answer
+  pub found : (n i : ℕ) {r : Bool} → i < n → r ≡ f i → r ≡ true → true ≡ any n f
+  found n i h p t = sym (any-yes n i h (sym p ∙ t))
+
+  pub go-on : (i : ℕ) {r : Bool} → any i f ≡ false → r ≡ f i → r ≡ false → any (i + 1) f ≡ false
+  unfolding any
+  go-on i q p t = rw add-one (or-no (any i f) (f i) q (sym p ∙ t))
+
+  pub none : (n i : ℕ) → i ≤ n → n ≤ i → any i f ≡ false → false ≡ any n f
+  none n i h k q = at-end (λ m. any m f) i n h k (sym q)
+
+pub reflects-any : (P : ℕ → Type 0) (f : ℕ → Bool) (n : ℕ) → ((i : ℕ) → i < n → Reflects (P i) (f i)) → Reflects ((i : ℕ) × (i < n) × P i) (any n f)
+reflects-any P f n h = reflects-by (any n f) (λ e. let r = any-some f n e in (r .0, r .1, reflects-yes (h (r .0) (r .1)) (r .2)))
+    (λ e r. reflects-no (h (r .0) (r .1)) (any-no f n (r .0) e (r .1)) (r .2))
+
+-- ---- first
+
+module _ (f : ℕ → Bool) where
+  first-low : (n : ℕ) → first n f ≤ n
+  unfolding first
+  first-low zero = omega arith
+  first-low (suc n) = go (ltb (first n f) n) (f n) (first-low n)
+    where
+      go : (a b : Bool) → first n f ≤ n → cond a (first n f) (cond b n (suc n)) ≤ suc n
+      go true b h = omega arith
+      go false true h = omega arith
+      go false false h = omega arith
+
+  pub first-none : first 0 f ≡ 0
+  unfolding first
+  first-none = refl
+
+  pub first-on : (i : ℕ) {r : Bool} → first i f ≡ i → r ≡ f i → r ≡ false → first (i + 1) f ≡ i + 1
+  unfolding first
+  first-on i q p t = rw (add-one, le-ltb (first i f) i (omega arith), sym p ∙ t) refl
+
+  first-keeps : (i : ℕ) → first i f < i → first (suc i) f ≡ first i f
+  unfolding first
+  first-keeps i h = rw (lt-ltb (first i f) i h) refl
+
+  pub first-found : (n i : ℕ) {r : Bool} → i < n → first i f ≡ i → r ≡ f i → r ≡ true → i ≡ first n f
+  unfolding first
+  first-found zero i h q p t = absurd (not-suc-le-zero h)
+  first-found (suc n) i h q p t = ⊎-elim (λ k. later k (first-found n i k q p t)) here (last i n h)
+    where
+      later : i < n → i ≡ first n f → i ≡ first (suc n) f
+      later k e = e ∙ sym (first-keeps n (subst (λ (m : ℕ). m < n) e k))
+
+      here : i ≡ n → i ≡ first (suc n) f
+      here e = subst (λ (m : ℕ). i ≡ first (suc m) f) e (sym (rw (le-ltb (first i f) i (omega arith), sym p ∙ t) refl))
+
+  pub first-end : (n i : ℕ) → i ≤ n → n ≤ i → first i f ≡ i → i ≡ first n f
+  first-end n i h k q = at-end (λ m. first m f) i n h k (sym q)
+
+  -- what it finds passes, and nothing before it does
+  pub first-passes : (n : ℕ) → first n f < n → f (first n f) ≡ true
+  unfolding first
+  first-passes zero h = absurd (not-suc-le-zero h)
+  first-passes (suc n) h = go (decLt (first n f) n) (f n) refl (first-passes n)
+    where
+      go : Dec (first n f < n) → (b : Bool) → f n ≡ b → (first n f < n → f (first n f) ≡ true) → f (first (suc n) f) ≡ true
+      go (yes k) b e ih = ap f (first-keeps n k) ∙ ih k
+      go (no k) true e ih = rw (le-ltb (first n f) n (omega arith), e) e
+      go (no k) false e ih = absurd (clash (rw (le-ltb (first n f) n (omega arith), e) at h))
+        where
+          clash : suc n < suc n → ⊥
+          clash l = omega arith
+
+  pub first-least : (n i : ℕ) → i < first n f → f i ≡ false
+  unfolding first
+  first-least zero i h = absurd (not-suc-le-zero h)
+  first-least (suc n) i h = go (decLt (first n f) n) (f n) refl (first-least n i)
+    where
+      go : Dec (first n f < n) → (b : Bool) → f n ≡ b → (i < first n f → f i ≡ false) → f i ≡ false
+      go (yes k) b e ih = ih (subst (λ (m : ℕ). i < m) (first-keeps n k) h)
+      go (no k) true e ih = ih (let l = rw (le-ltb (first n f) n (omega arith), e) at h in let m = first-low n in omega arith)
+      go (no k) false e ih = ⊎-elim (λ l. ih (let m = first-low n in omega arith)) (λ q. ap f q ∙ e) (last i n (rw (le-ltb (first n f) n (omega arith), e) at h))
+
+-- ---- fold
+
+module _ {A : Type 0} (f : ℕ → A → A) (a : A) where
+  pub fold-none : a ≡ fold f a 0
+  unfolding fold
+  fold-none = refl
+
+  pub fold-more : (n : ℕ) {b c : A} → b ≡ fold f a n → c ≡ f n b → c ≡ fold f a (n + 1)
+  unfolding fold
+  fold-more n p q = q ∙ ap (f n) p ∙ rw add-one refl
+
+  pub fold-end : (n m : ℕ) {b : A} → n ≤ m → m ≤ n → b ≡ fold f a n → b ≡ fold f a m
+  fold-end n m h k p = at-end (fold f a) n m h k p
+
+-- ---- tally
+
+module _ (f : ℕ → ℕ) where
+  pub tally-none : 0 ≡ tally 0 f
+  unfolding tally
+  tally-none = refl
+
+  pub tally-more : (n : ℕ) {b c : ℕ} → b ≡ tally n f → c ≡ b + f n → c ≡ tally (n + 1) f
+  unfolding tally
+  tally-more n p q = q ∙ ap (λ x. x + f n) p ∙ rw add-one refl
+
+  pub tally-end : (n m : ℕ) {b : ℕ} → n ≤ m → m ≤ n → b ≡ tally n f → b ≡ tally m f
+  tally-end n m h k p = at-end (λ x. tally x f) n m h k p
+
+  pub tally-below : (n k : ℕ) → ((i : ℕ) → i < n → f i ≤ k) → tally n f ≤ n * k
+  unfolding tally
+  tally-below zero k h = omega arith
+  tally-below (suc n) k h = let a = tally-below n k (λ i l. h i (omega arith)) in let b = h n (omega arith) in omega arith
+
+-- ---- tabulate
+
+module _ {A : Type 0} (f : ℕ → A) where
+  pub length-tabulate : (n : ℕ) → length (tabulate n f) ≡ n
+  unfolding tabulate
+  length-tabulate zero = refl
+  length-tabulate (suc n) = let e = length-append (tabulate n f) (f n ∷ []) in let h = length-tabulate n in omega arith
+
+  pub getD-tabulate : (n i : ℕ) (d : A) → i < n → getD (tabulate n f) i d ≡ f i
+  unfolding tabulate
+  getD-tabulate zero i d h = absurd (not-suc-le-zero h)
+  getD-tabulate (suc n) i d h =
+      ⊎-elim (λ k. List·getD-append (tabulate n f) (f n ∷ []) d i (rw (length-tabulate n) k) ∙ getD-tabulate n i d k)
+      (λ e. getD-at (tabulate n f) (f n) [] d i (length-tabulate n ∙ sym e) ∙ ap f (sym e))
+      (last i n h)
+
+  pub fill-none : (l₀ : List A) → l₀ ≡ tabulate 0 f ++ drop 0 l₀
+  unfolding tabulate
+  fill-none l₀ = refl
+
+  pub fill-more : (l₀ : List A) (n : ℕ) {l : List A} {v : A} → n < length l₀ → l ≡ tabulate n f ++ drop n l₀ → v ≡ f n → set l n v ≡ tabulate (n + 1) f ++ drop (n + 1) l₀
+  unfolding tabulate
+  fill-more l₀ n {l} {v} h p q =
+      rw (add-one, p, q, drop-cons l₀ n v h)
+      (set-at (tabulate n f) (getD l₀ n v) (drop (suc n) l₀) (f n) n (length-tabulate n) ∙ sym (append-assoc (tabulate n f) (f n ∷ []) (drop (suc n) l₀)))
+
+  pub fill-end : (l₀ : List A) (n m : ℕ) {l : List A} → length l₀ ≡ m → n ≤ m → m ≤ n → l ≡ tabulate n f ++ drop n l₀ → l ≡ tabulate m f
+  fill-end l₀ n m {l} e h k p = at-end (λ x. tabulate x f) n m h k (p ∙ rw (drop-of-length-le l₀ {i = n} (omega arith)) (append-nil (tabulate n f)))

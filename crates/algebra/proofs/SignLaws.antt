@@ -1,0 +1,264 @@
+-- Signs of whole numbers, by witnesses.
+--
+--   tri              which of the three
+--   pos-*, nn-*      sums and products; `pos-cast`, `nn-cast` along an equation
+--   pos-zero, pos-np, neg-nn     the signs exclude one another
+--   mul-zero, zero-mul, both-zero, neg-zero     products, combinations and negatives that are 0
+--   *-of-mul         a factor taken away
+--   square-nn, square-pos, squares-zero
+--   signOf-pos, signOf-neg, signOf-zero     the sign as a value, from the statement
+--   pos-signOf, neg-signOf, zero-signOf     and back
+--   signOf-opposite, opposite-opposite, opposite-nought, nought-opposite     a number and its negative
+--   plus-minus, plus-nought, minus-nought, Sign-discrete                     signs are told apart
+use mathlib.Core.Path.{_≡_, refl, sym, _∙_, ap, ap₂, subst}
+use mathlib.Core.List.{[], _∷_}
+use Prim.Native.Nat.{ℕ, zero, suc, _+_, _*_}
+use native.Mathlib.Omega.{arith}
+use lib.IntN.{ℤ, pos, negsuc, negℤ, _+ℤ_, _*ℤ_, negℤ-negℤ, *ℤ-zero, zero-*ℤ, ℤ-discrete}
+use Rattle.algebra.specs.Sign.{Sign, minus, nought, plus, signOf, opposite, Pos, NN, Neg, NP, NZ, Tri, below, at-nought, above}
+use Rattle.algebra.proofs.Ring.{cst, var, _⊕_, _⊗_, neg, ring}
+
+pub tri : (z : ℤ) → Tri z
+tri (pos zero) = at-nought refl
+tri (pos (suc n)) = above (record { by = n; is = refl })
+tri (negsuc n) = below (record { by = n; is = refl })
+
+pub pos-cast : {a b : ℤ} → a ≡ b → Pos a → Pos b
+pos-cast e h = record { by = h .by; is = sym e ∙ h .is }
+
+pub nn-cast : {a b : ℤ} → a ≡ b → NN a → NN b
+nn-cast e h = record { by = h .by; is = sym e ∙ h .is }
+
+pub pos-mul : {a b : ℤ} → Pos a → Pos b → Pos (a *ℤ b)
+pos-mul h k = record { by = h .by * k .by + h .by + k .by; is = rw (h .is, k .is) (ap pos (step (h .by) (k .by))) }
+  where
+    step : (m n : ℕ) → suc m * suc n ≡ suc (m * n + m + n)
+    step m n = omega arith
+
+pub nn-mul : {a b : ℤ} → NN a → NN b → NN (a *ℤ b)
+nn-mul h k = record { by = h .by * k .by; is = rw (h .is, k .is) refl }
+
+pub nn-add : {a b : ℤ} → NN a → NN b → NN (a +ℤ b)
+nn-add h k = record { by = h .by + k .by; is = rw (h .is, k .is) refl }
+
+pub pos-nn-add : {a b : ℤ} → Pos a → NN b → Pos (a +ℤ b)
+pos-nn-add h k = record { by = h .by + k .by; is = rw (h .is, k .is) (ap pos (step (h .by) (k .by))) }
+  where
+    step : (m n : ℕ) → suc m + n ≡ suc (m + n)
+    step m n = omega arith
+
+pub pos-nn : {a : ℤ} → Pos a → NN a
+pos-nn h = record { by = suc (h .by); is = h .is }
+
+pub pos-add : {a b : ℤ} → Pos a → Pos b → Pos (a +ℤ b)
+pos-add h k = pos-nn-add h (pos-nn k)
+
+pub nn-zero : {a : ℤ} → a ≡ pos 0 → NN a
+nn-zero e = record { by = 0; is = e }
+
+-- what is 0 because a part is
+pub mul-zero : (a : ℤ) {b : ℤ} → b ≡ pos 0 → a *ℤ b ≡ pos 0
+mul-zero a e = ap (λ x. a *ℤ x) e ∙ *ℤ-zero a
+
+pub zero-mul : {a : ℤ} (b : ℤ) → a ≡ pos 0 → a *ℤ b ≡ pos 0
+zero-mul b e = ap (λ x. x *ℤ b) e ∙ zero-*ℤ b
+
+pub both-zero : (a b : ℤ) {s t : ℤ} → s ≡ pos 0 → t ≡ pos 0 → a *ℤ s +ℤ b *ℤ t ≡ pos 0
+both-zero a b p q = ap₂ (λ s t. s +ℤ t) (mul-zero a p) (mul-zero b q)
+
+pub neg-zero : (z : ℤ) → negℤ z ≡ pos 0 → z ≡ pos 0
+neg-zero z e = sym (negℤ-negℤ z) ∙ ap negℤ e
+
+-- the three signs exclude one another
+pub pos-zero : {X : Type 0} {a : ℤ} → Pos a → a ≡ pos 0 → X
+pos-zero h e = let z : _≡_ {A = ℤ} (pos (suc (h .by))) (pos 0) = sym (h .is) ∙ e in absurd (clash (h .by) z)
+  where
+    clash : (n : ℕ) → pos (suc n) ≡ pos 0 → ⊥
+    clash n p = let q : _≡_ {A = ℕ} (suc n) 0 = cc in omega arith
+
+pub pos-np : {X : Type 0} {a : ℤ} → Pos a → NP a → X
+pos-np {X} {a} h k = pos-zero (pos-nn-add h k) (ring (a ∷ []) (var 0 ⊕ neg (var 0)) (cst (pos 0)) tt)
+
+pub neg-nn : {X : Type 0} {a : ℤ} → Neg a → NN a → X
+neg-nn {X} {a} h k = pos-np h (nn-cast (sym (negℤ-negℤ a)) k)
+
+-- a positive factor taken away
+pub pos-of-mul : {a b : ℤ} → Pos a → Pos (a *ℤ b) → Pos b
+pos-of-mul {a} {b} h k = go (tri b)
+  where
+    go : Tri b → Pos b
+    go (below n) = pos-np k (nn-cast (ring (a ∷ b ∷ []) (var 0 ⊗ neg (var 1)) (neg (var 0 ⊗ var 1)) tt) (pos-nn (pos-mul h n)))
+    go (at-nought e) = pos-zero k (mul-zero a e)
+    go (above p) = p
+
+pub nn-of-mul : {a b : ℤ} → Pos a → NN (a *ℤ b) → NN b
+nn-of-mul {a} {b} h k = go (tri b)
+  where
+    go : Tri b → NN b
+    go (below n) = neg-nn (pos-cast (ring (a ∷ b ∷ []) (var 0 ⊗ neg (var 1)) (neg (var 0 ⊗ var 1)) tt) (pos-mul h n)) k
+    go (at-nought e) = nn-zero e
+    go (above p) = pos-nn p
+
+-- a product that is zero, one factor of which is not
+pub zero-of-mul : {a b : ℤ} → (a ≡ pos 0 → ⊥) → a *ℤ b ≡ pos 0 → b ≡ pos 0
+zero-of-mul {a} {b} h e = go (tri a) (tri b)
+  where
+    go : Tri a → Tri b → b ≡ pos 0
+    go (at-nought z) t = absurd (h z)
+    go (above p) (above q) = pos-zero (pos-mul p q) e
+    go (above p) (at-nought z) = z
+    go (above p) (below q) = pos-zero (pos-mul p q) (ring (a ∷ b ∷ []) (var 0 ⊗ neg (var 1)) (neg (var 0 ⊗ var 1)) tt ∙ ap negℤ e)
+    go (below p) (above q) = pos-zero (pos-mul p q) (ring (a ∷ b ∷ []) (neg (var 0) ⊗ var 1) (neg (var 0 ⊗ var 1)) tt ∙ ap negℤ e)
+    go (below p) (at-nought z) = z
+    go (below p) (below q) = pos-zero (pos-mul p q) (ring (a ∷ b ∷ []) (neg (var 0) ⊗ neg (var 1)) (var 0 ⊗ var 1) tt ∙ e)
+
+-- a square that is zero, and a sum of squares
+pub square-nn : (a : ℤ) → NN (a *ℤ a)
+square-nn a = go (tri a)
+  where
+    go : Tri a → NN (a *ℤ a)
+    go (below n) = nn-cast (ring (a ∷ []) (neg (var 0) ⊗ neg (var 0)) (var 0 ⊗ var 0) tt) (pos-nn (pos-mul n n))
+    go (at-nought e) = nn-zero (zero-mul a e)
+    go (above p) = pos-nn (pos-mul p p)
+
+pub squares-zero : (a b : ℤ) → a *ℤ a +ℤ b *ℤ b ≡ pos 0 → a ≡ pos 0
+squares-zero a b e = go (tri a)
+  where
+    go : Tri a → a ≡ pos 0
+    go (below n) = pos-zero (pos-nn-add (pos-cast (ring (a ∷ []) (neg (var 0) ⊗ neg (var 0)) (var 0 ⊗ var 0) tt) (pos-mul n n)) (square-nn b)) e
+    go (at-nought z) = z
+    go (above p) = pos-zero (pos-nn-add (pos-mul p p) (square-nn b)) e
+
+-- ---- decisions
+
+pub dec-pos : (z : ℤ) → Dec (Pos z)
+dec-pos z = go (tri z)
+  where
+    go : Tri z → Dec (Pos z)
+    go (above p) = yes p
+    go (at-nought e) = no (λ p. pos-zero p e)
+    go (below p) = no (λ q. pos-np q (pos-nn p))
+
+pub square-pos : (z : ℤ) → NZ z → Pos (z *ℤ z)
+square-pos z k = go (tri z)
+  where
+    go : Tri z → Pos (z *ℤ z)
+    go (above p) = pos-mul p p
+    go (at-nought e) = absurd (k e)
+    go (below p) = pos-cast (ring (z ∷ []) (neg (var 0) ⊗ neg (var 0)) (var 0 ⊗ var 0) tt) (pos-mul p p)
+
+-- not positive is at most nought
+pub np-of : (z : ℤ) → (Pos z → ⊥) → NP z
+np-of z k = go (tri z)
+  where
+    go : Tri z → NP z
+    go (above p) = absurd (k p)
+    go (at-nought e) = nn-zero (ap negℤ e)
+    go (below p) = pos-nn p
+
+pub factor-l : (a b : ℤ) → Neg (a *ℤ b) → NZ a
+factor-l a b h e = pos-zero h (ap negℤ (zero-mul b e))
+
+pub factor-r : (a b : ℤ) → Neg (a *ℤ b) → NZ b
+factor-r a b h e = pos-zero h (ap negℤ (mul-zero a e))
+
+pub dec-nz : (z : ℤ) → Dec (NZ z)
+dec-nz z = go (ℤ-discrete z (pos 0))
+  where
+    go : Dec (z ≡ pos 0) → Dec (NZ z)
+    go (yes e) = no (λ f. f e)
+    go (no f) = yes f
+
+pub zero-if : (z : ℤ) → (NZ z → ⊥) → z ≡ pos 0
+zero-if z h = go (ℤ-discrete z (pos 0))
+  where
+    go : Dec (z ≡ pos 0) → z ≡ pos 0
+    go (yes e) = e
+    go (no f) = absurd (h f)
+
+-- ---- the sign as a value
+
+pub signOf-pos : (z : ℤ) → Pos z → signOf z ≡ plus
+unfolding signOf
+signOf-pos z h = ap signOf (h .is)
+
+pub signOf-neg : (z : ℤ) → Neg z → signOf z ≡ minus
+unfolding signOf
+signOf-neg z h = ap signOf (sym (negℤ-negℤ z) ∙ ap negℤ (h .is))
+
+pub signOf-zero : (z : ℤ) → z ≡ pos 0 → signOf z ≡ nought
+unfolding signOf
+signOf-zero z e = ap signOf e
+
+abbrev IsPlus : Sign → Type 0
+IsPlus minus = ⊥
+IsPlus nought = ⊥
+IsPlus plus = Unit {0}
+
+abbrev IsMinus : Sign → Type 0
+IsMinus minus = Unit {0}
+IsMinus nought = ⊥
+IsMinus plus = ⊥
+
+pub plus-minus : {X : Type 0} → plus ≡ minus → X
+plus-minus e = absurd (subst IsPlus e tt)
+
+pub plus-nought : {X : Type 0} → plus ≡ nought → X
+plus-nought e = absurd (subst IsPlus e tt)
+
+pub minus-nought : {X : Type 0} → minus ≡ nought → X
+minus-nought e = absurd (subst IsMinus e tt)
+
+pub pos-signOf : (z : ℤ) → signOf z ≡ plus → Pos z
+pos-signOf z e = go (tri z)
+  where
+    go : Tri z → Pos z
+    go (below p) = plus-minus (sym e ∙ signOf-neg z p)
+    go (at-nought q) = plus-nought (sym e ∙ signOf-zero z q)
+    go (above p) = p
+
+pub neg-signOf : (z : ℤ) → signOf z ≡ minus → Neg z
+neg-signOf z e = go (tri z)
+  where
+    go : Tri z → Neg z
+    go (below p) = p
+    go (at-nought q) = minus-nought (sym e ∙ signOf-zero z q)
+    go (above p) = plus-minus (sym (signOf-pos z p) ∙ e)
+
+pub zero-signOf : (z : ℤ) → signOf z ≡ nought → z ≡ pos 0
+zero-signOf z e = go (tri z)
+  where
+    go : Tri z → z ≡ pos 0
+    go (below p) = minus-nought (sym (signOf-neg z p) ∙ e)
+    go (at-nought q) = q
+    go (above p) = plus-nought (sym (signOf-pos z p) ∙ e)
+
+pub signOf-opposite : (z : ℤ) → signOf (negℤ z) ≡ opposite (signOf z)
+unfolding signOf opposite
+signOf-opposite (pos zero) = refl
+signOf-opposite (pos (suc n)) = refl
+signOf-opposite (negsuc n) = refl
+
+pub opposite-opposite : (s : Sign) → opposite (opposite s) ≡ s
+unfolding opposite
+opposite-opposite minus = refl
+opposite-opposite nought = refl
+opposite-opposite plus = refl
+
+pub nought-opposite : (s : Sign) → s ≡ nought → opposite s ≡ nought
+unfolding opposite
+nought-opposite s e = ap opposite e
+
+pub opposite-nought : (s : Sign) → opposite s ≡ nought → s ≡ nought
+opposite-nought s e = sym (opposite-opposite s) ∙ nought-opposite (opposite s) e
+
+pub Sign-discrete : (s t : Sign) → Dec (s ≡ t)
+Sign-discrete minus minus = yes refl
+Sign-discrete minus nought = no minus-nought
+Sign-discrete minus plus = no (λ e. plus-minus (sym e))
+Sign-discrete nought minus = no (λ e. minus-nought (sym e))
+Sign-discrete nought nought = yes refl
+Sign-discrete nought plus = no (λ e. plus-nought (sym e))
+Sign-discrete plus minus = no plus-minus
+Sign-discrete plus nought = no plus-nought
+Sign-discrete plus plus = yes refl

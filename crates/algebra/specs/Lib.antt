@@ -1,0 +1,4 @@
+pub mod Answer
+pub mod Loops
+pub mod Sign
+pub mod Sum

@@ -1,0 +1,47 @@
+-- The small functions that a loop of the code is mirrored by, each over the numbers that the loop goes through.
+--
+--   any n f        some i < n passes f
+--   first n f      the least i < n that passes f, and n where none does
+--   fold f a n     a, then f 0 of it, then f 1, .. , then f (n - 1)
+--   tally n f      f 0 + f 1 + .. + f (n - 1)
+--   picks n f      the i < n that pass f, in order
+--   tabulate n f   f 0, f 1, .. , f (n - 1)
+--   run f a k      f a ++ f (a + 1) ++ .. , k lists
+--   over f a b     f a ++ f (a + 1) ++ .. ++ f (b - 1)
+--
+-- Laws: proofs/LoopLaws (what a loop wants where it begins, goes on and ends), proofs/PicksLaws (place and rank are inverse), proofs/OverLaws.
+use mathlib.Core.Bool.{Bool, true, false, cond, _||_}
+use mathlib.Core.List.{List, [], _∷_, _++_}
+use Prim.Native.Nat.{ℕ, zero, suc, _+_, _-_}
+use lib.Dec.{ltb}
+
+unfoldable pub any : ℕ → (ℕ → Bool) → Bool
+any zero f = false
+any (suc n) f = any n f || f n
+
+unfoldable pub first : ℕ → (ℕ → Bool) → ℕ
+first zero f = zero
+first (suc n) f = cond (ltb (first n f) n) (first n f) (cond (f n) n (suc n))
+
+unfoldable pub fold : {A : Type 0} → (ℕ → A → A) → A → ℕ → A
+fold f a zero = a
+fold f a (suc n) = f n (fold f a n)
+
+unfoldable pub tally : ℕ → (ℕ → ℕ) → ℕ
+tally zero f = 0
+tally (suc n) f = tally n f + f n
+
+unfoldable pub picks : ℕ → (ℕ → Bool) → List ℕ
+picks zero f = []
+picks (suc n) f = picks n f ++ cond (f n) (n ∷ []) []
+
+unfoldable pub tabulate : {A : Type 0} → ℕ → (ℕ → A) → List A
+tabulate zero f = []
+tabulate (suc n) f = tabulate n f ++ f n ∷ []
+
+unfoldable pub run : {A : Type 0} → (ℕ → List A) → ℕ → ℕ → List A
+run f a zero = []
+run f a (suc k) = f a ++ run f (suc a) k
+
+unfoldable pub over : {A : Type 0} → (ℕ → List A) → ℕ → ℕ → List A
+over f a b = run f a (b - a)

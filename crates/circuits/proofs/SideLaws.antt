@@ -1,0 +1,147 @@
+-- What the sides of a split say of each shot.
+--
+--   signOn ts i      the sign of shot i among the terms ts, nought where it is in none
+--   relative s v     v, turned where s is minus: the sign against that of the first shot
+--   Rising lo ts     the shots of ts are increasing, from lo on
+--   on-side          a shot is on the side of sign s exactly when s is its sign
+--   Values, Off      what is known of a sign v at i: it is the sign of the term with that shot; no term has that shot
+--   match-at         a sign known so is the sign of shot i among the terms
+--   sign-of-split    the sign of a shot in a split list of terms is its sign against that of the first
+--   mask-below       a side of shots below n has a mask below 2 ^ n
+use mathlib.Core.Path.{_≡_, refl, sym, _∙_, ap, subst}
+use mathlib.Core.Bool.{Bool, true, false, cond, _||_, true≢false}
+use mathlib.Core.List.{List, [], _∷_}
+use Prim.Native.Nat.{ℕ, zero, suc, _+_, _^_, _<_, _≤_}
+use native.Mathlib.Omega.{arith}
+use native.Mathlib.Decide.{ℕ-discrete}
+use lib.Dec.{eqb}
+use lib.Pow.{pow-pos, pow-mono}
+use borrow.Author.Tests.{eq-eqb, ne-eqb}
+use Rattle.algebra.specs.Sign.{Sign, minus, nought, plus, opposite, isNought, sameSign}
+use Rattle.circuits.specs.Sides.{Circuit, Term, side, split, maskOf, isOn, signIn}
+use Rattle.circuits.proofs.MaskLaws.{turned-signed}
+
+abbrev pub signOn : List Term → ℕ → Sign
+signOn [] i = nought
+signOn (t ∷ ts) i = cond (eqb i (t .shot)) (t .sign) (signOn ts i)
+
+abbrev pub relative : Sign → Sign → Sign
+relative minus v = opposite v
+relative nought v = v
+relative plus v = v
+
+abbrev pub Rising : ℕ → List Term → Type 0
+Rising lo [] = Unit {0}
+Rising lo (t ∷ ts) = (lo ≤ t .shot) × Rising (suc (t .shot)) ts
+
+-- a shot before all of them is in none
+pub early-off : (lo i : ℕ) (ts : List Term) → Rising lo ts → i < lo → signOn ts i ≡ nought
+early-off lo i [] r h = refl
+early-off lo i (t ∷ ts) r h = rw (ne-eqb i (t .shot) (λ e. apart (r .0) e)) (early-off (suc (t .shot)) i ts (r .1) (let k = r .0 in omega arith))
+  where
+    apart : lo ≤ t .shot → i ≡ t .shot → ⊥
+    apart k e = omega arith
+
+same-nought : (s : Sign) → isNought s ≡ false → sameSign s nought ≡ false
+same-nought minus h = refl
+same-nought nought h = absurd (true≢false h)
+same-nought plus h = refl
+
+on-cond : (b c : Bool) (i j : ℕ) (s : List ℕ) → eqb i j ≡ c → isOn i (cond b (j ∷ s) s) ≡ cond c (b || isOn i s) (isOn i s)
+unfolding isOn
+on-cond true true i j s e = rw e refl
+on-cond true false i j s e = rw e refl
+on-cond false true i j s e = refl
+on-cond false false i j s e = refl
+
+pub on-side : (s : Sign) (lo : ℕ) (ts : List Term) (i : ℕ) → isNought s ≡ false → Rising lo ts → isOn i (side s ts) ≡ sameSign s (signOn ts i)
+unfolding side isOn
+on-side s lo [] i h r = sym (same-nought s h)
+on-side s lo (t ∷ ts) i h r = go (ℕ-discrete i (t .shot)) (on-side s (suc (t .shot)) ts i h (r .1))
+  where
+    back : (b : Bool) → (b || false) ≡ b
+    back true = refl
+    back false = refl
+    go : Dec (i ≡ t .shot) → isOn i (side s ts) ≡ sameSign s (signOn ts i) → isOn i (cond (sameSign s (t .sign)) (t .shot ∷ side s ts) (side s ts)) ≡ sameSign s (cond (eqb i (t .shot)) (t .sign) (signOn ts i))
+    go (yes e) ih =
+        on-cond (sameSign s (t .sign)) true i (t .shot) (side s ts) (eq-eqb i (t .shot) e)
+        ∙ ap (λ (x : Bool). sameSign s (t .sign) || x) (ih ∙ ap (sameSign s) (early-off (suc (t .shot)) i ts (r .1) (omega arith)) ∙ same-nought s h)
+        ∙ back (sameSign s (t .sign)) ∙ sym (rw (eq-eqb i (t .shot) e) refl)
+    go (no f) ih = on-cond (sameSign s (t .sign)) false i (t .shot) (side s ts) (ne-eqb i (t .shot) f) ∙ ih ∙ sym (rw (ne-eqb i (t .shot) f) refl)
+
+chosen : (s v : Sign) → isNought s ≡ false → cond (sameSign s v) plus (cond (sameSign (opposite s) v) minus nought) ≡ relative s v
+unfolding opposite
+chosen minus minus h = refl
+chosen minus nought h = refl
+chosen minus plus h = refl
+chosen nought v h = absurd (true≢false h)
+chosen plus minus h = refl
+chosen plus nought h = refl
+chosen plus plus h = refl
+
+pub sign-of-split : (t : Term) (ts : List Term) (i : ℕ) → isNought (t .sign) ≡ false → Rising 0 (t ∷ ts) → signIn (split (t ∷ ts)) i ≡ relative (t .sign) (signOn (t ∷ ts) i)
+unfolding signIn split
+sign-of-split t ts i h r =
+    rw (on-side (t .sign) 0 (t ∷ ts) i h r, on-side (opposite (t .sign)) 0 (t ∷ ts) i (turned-signed (t .sign) h) r) (chosen (t .sign) (signOn (t ∷ ts) i) h)
+
+-- a sign against another one is nought exactly when it is
+pub relative-nought : (s v : Sign) → relative s v ≡ nought → v ≡ nought
+unfolding opposite
+relative-nought minus minus e = cc
+relative-nought minus nought e = refl
+relative-nought minus plus e = cc
+relative-nought nought v e = e
+relative-nought plus v e = e
+
+pub nought-relative : (s v : Sign) → v ≡ nought → relative s v ≡ nought
+unfolding opposite
+nought-relative minus v e = ap opposite e
+nought-relative nought v e = e
+nought-relative plus v e = e
+
+pub relative-self : (s : Sign) → isNought s ≡ false → relative s s ≡ plus
+unfolding opposite
+relative-self minus h = refl
+relative-self nought h = absurd (true≢false h)
+relative-self plus h = refl
+
+-- ---- signs given term by term
+
+abbrev pub Values : ℕ → Sign → List Term → Type 0
+Values i v [] = Unit {0}
+Values i v (t ∷ ts) = (i ≡ t .shot → v ≡ t .sign) × Values i v ts
+
+abbrev pub Off : ℕ → List Term → Type 0
+Off i [] = Unit {0}
+Off i (t ∷ ts) = (i ≡ t .shot → ⊥) × Off i ts
+
+pub match-at : (i : ℕ) (v : Sign) (ts : List Term) → Values i v ts → (Off i ts → v ≡ nought) → signOn ts i ≡ v
+match-at i v [] h o = sym (o tt)
+match-at i v (t ∷ ts) h o = go (ℕ-discrete i (t .shot)) (λ k. match-at i v ts (h .1) k)
+  where
+    go : Dec (i ≡ t .shot) → ((Off i ts → v ≡ nought) → signOn ts i ≡ v) → cond (eqb i (t .shot)) (t .sign) (signOn ts i) ≡ v
+    go (yes e) ih = rw (eq-eqb i (t .shot) e) (sym (h .0 e))
+    go (no f) ih = rw (ne-eqb i (t .shot) f) (ih (λ k. o (f, k)))
+
+pub off-nought : (i : ℕ) (ts : List Term) → Off i ts → signOn ts i ≡ nought
+off-nought i [] o = refl
+off-nought i (t ∷ ts) o = rw (ne-eqb i (t .shot) (o .0)) (off-nought i ts (o .1))
+
+-- ---- masks
+
+-- the shots of a side are below n
+abbrev pub Lower : ℕ → List Term → Type 0
+Lower n [] = Unit {0}
+Lower n (t ∷ ts) = (t .shot < n) × Lower n ts
+
+mask-rising : (s : Sign) (lo n : ℕ) (ts : List Term) → lo ≤ n → Rising lo ts → Lower n ts → 2 ^ lo + maskOf (side s ts) ≤ 2 ^ n
+unfolding maskOf side
+mask-rising s lo n [] h r k = omega (arith, pow-mono h)
+mask-rising s lo n (t ∷ ts) h r k = go (sameSign s (t .sign)) (mask-rising s (suc (t .shot)) n ts (k .0) (r .1) (k .1))
+  where
+    go : (b : Bool) → 2 ^ suc (t .shot) + maskOf (side s ts) ≤ 2 ^ n → 2 ^ lo + maskOf (cond b (t .shot ∷ side s ts) (side s ts)) ≤ 2 ^ n
+    go true ih = omega (arith, pow-mono (r .0))
+    go false ih = omega (arith, pow-mono (r .0))
+
+pub mask-below : (s : Sign) (n : ℕ) (ts : List Term) → Rising 0 ts → Lower n ts → maskOf (side s ts) < 2 ^ n
+mask-below s n ts r k = omega (arith, mask-rising s 0 n ts (omega arith) r k)

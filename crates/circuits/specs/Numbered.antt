@@ -1,0 +1,71 @@
+-- The circuits of a patch, numbered from 0: all threes first, then all fours, each group in lexicographic order.
+--
+--   three l a b c      the circuit of three shots on a line, the two ends against the middle one; none where they are not on a line
+--   four l a b c d     the circuit of four shots, split by sign; none where three of them are on a line
+--   threes l, fours l  those of all a < b < c, of all a < b < c < d
+--   circuitsOf l       the circuits of the patch in the order of their numbers
+--
+-- Agreement with the published definition: proofs/Agreement. Source: document 01, "Circuits".
+use mathlib.Core.Bool.{Bool, true, false, cond, _||_}
+use mathlib.Core.List.{List, [], _∷_, _++_}
+use Prim.Native.Nat.{ℕ, _+_}
+use lib.IntN.{ℤ}
+use Rattle.algebra.specs.Loops.{over}
+use Rattle.algebra.specs.Sign.{Sign, minus, plus, opposite, isNought}
+use Rattle.shots.specs.Coordinates.{countOf, orientOf, betweenOf}
+use Rattle.circuits.specs.Sides.{Circuit, Term, split}
+
+-- an end is plus, the middle one minus
+abbrev pub endSign : Bool → Sign
+endSign true = minus
+endSign false = plus
+
+abbrev pub terms3 : List ℤ → ℕ → ℕ → ℕ → List Term
+terms3 l a b c =
+    record { shot = a; sign = endSign (betweenOf l a b c) }
+    ∷ record { shot = b; sign = endSign (betweenOf l b a c) }
+    ∷ record { shot = c; sign = endSign (betweenOf l c a b) }
+    ∷ []
+
+unfoldable pub three : List ℤ → ℕ → ℕ → ℕ → List Circuit
+three l a b c = cond (isNought (orientOf l a b c)) (split (terms3 l a b c) ∷ []) []
+
+abbrev pub terms4 : List ℤ → ℕ → ℕ → ℕ → ℕ → List Term
+terms4 l a b c d =
+    record { shot = a; sign = orientOf l b c d }
+    ∷ record { shot = b; sign = opposite (orientOf l a c d) }
+    ∷ record { shot = c; sign = orientOf l a b d }
+    ∷ record { shot = d; sign = opposite (orientOf l a b c) }
+    ∷ []
+
+-- three of the four are on a line
+abbrev pub someFlat : List ℤ → ℕ → ℕ → ℕ → ℕ → Bool
+someFlat l a b c d = isNought (orientOf l b c d) || (isNought (orientOf l a c d) || (isNought (orientOf l a b d) || isNought (orientOf l a b c)))
+
+unfoldable pub four : List ℤ → ℕ → ℕ → ℕ → ℕ → List Circuit
+four l a b c d = cond (someFlat l a b c d) [] (split (terms4 l a b c d) ∷ [])
+
+-- the last shot, the last two and so on from the ones that are fixed
+unfoldable pub threesWith : List ℤ → ℕ → ℕ → List Circuit
+threesWith l a b = over (three l a b) (b + 1) (countOf l)
+
+unfoldable pub threesFrom : List ℤ → ℕ → List Circuit
+threesFrom l a = over (threesWith l a) (a + 1) (countOf l)
+
+unfoldable pub threes : List ℤ → List Circuit
+threes l = over (threesFrom l) 0 (countOf l)
+
+unfoldable pub foursUpon : List ℤ → ℕ → ℕ → ℕ → List Circuit
+foursUpon l a b c = over (four l a b c) (c + 1) (countOf l)
+
+unfoldable pub foursWith : List ℤ → ℕ → ℕ → List Circuit
+foursWith l a b = over (foursUpon l a b) (b + 1) (countOf l)
+
+unfoldable pub foursFrom : List ℤ → ℕ → List Circuit
+foursFrom l a = over (foursWith l a) (a + 1) (countOf l)
+
+unfoldable pub fours : List ℤ → List Circuit
+fours l = over (foursFrom l) 0 (countOf l)
+
+unfoldable pub circuitsOf : List ℤ → List Circuit
+circuitsOf l = threes l ++ fours l

@@ -1,0 +1,88 @@
+-- The determinant of three points and the scalar product: their identities, each by `ring`.
+--
+--   coordinates ps     the environment of `ring` for a list of points: point i has the variables 2 i and 2 i + 1
+--   X i, Y i           the coordinates of point i, as expressions
+--   D i j k, O m i j   turn and dot of the points of these numbers, as expressions
+--
+-- Main theorems: `turn-is-det3`; alternating: `turn-cycle`, `turn-swap`, `turn-swap-first`; repeated points: `turn-first`, `turn-last`, `turn-ends`; `turn-form`;
+-- `dot-base`, `dot-zero`, `dot-pos`: the scalar product, and that different points are apart.
+use mathlib.Core.Path.{_≡_, _∙_}
+use mathlib.Core.List.{List, [], _∷_}
+use Prim.Native.Nat.{ℕ, _+_, _*_}
+use lib.IntN.{ℤ, pos, negℤ, _+ℤ_, _-ℤ_, _*ℤ_, +ℤ-comm}
+use Rattle.algebra.specs.Sign.{Pos, Tri, below, at-nought, above}
+use Rattle.algebra.proofs.Ring.{Ex, cst, var, _⊕_, _⊝_, _⊗_, neg, ring, sub-zero→eq}
+use Rattle.algebra.proofs.SignLaws.{tri, square-nn, squares-zero, nn-add, neg-nn}
+use Rattle.matroid.specs.Points.{Point, det3, homogeneous, turn, dot}
+
+-- ---- expressions
+
+abbrev pub coordinates : List Point → List ℤ
+coordinates [] = []
+coordinates (p ∷ ps) = p .x ∷ p .y ∷ coordinates ps
+
+abbrev pub X : ℕ → Ex
+X i = var (2 * i)
+
+abbrev pub Y : ℕ → Ex
+Y i = var (2 * i + 1)
+
+abbrev pub D : ℕ → ℕ → ℕ → Ex
+D i j k = (X j ⊝ X i) ⊗ (Y k ⊝ Y i) ⊝ (Y j ⊝ Y i) ⊗ (X k ⊝ X i)
+
+abbrev pub O : ℕ → ℕ → ℕ → Ex
+O m i j = (X i ⊝ X m) ⊗ (X j ⊝ X m) ⊕ (Y i ⊝ Y m) ⊗ (Y j ⊝ Y m)
+
+-- ---- the determinant
+
+-- the rows 1, x, y of the points 0, 1, 2, by the first row
+det3Ex : Ex
+det3Ex =
+    cst (pos 1) ⊗ (X 1 ⊗ Y 2 ⊝ Y 1 ⊗ X 2)
+    ⊝ X 0 ⊗ (cst (pos 1) ⊗ Y 2 ⊝ Y 1 ⊗ cst (pos 1))
+    ⊕ Y 0 ⊗ (cst (pos 1) ⊗ X 2 ⊝ X 1 ⊗ cst (pos 1))
+
+pub turn-is-det3 : (a b c : Point) → turn a b c ≡ det3 (homogeneous a) (homogeneous b) (homogeneous c)
+unfolding det3Ex
+turn-is-det3 a b c = ring (coordinates (a ∷ b ∷ c ∷ [])) (D 0 1 2) det3Ex tt
+
+pub turn-cycle : (a b c : Point) → turn a b c ≡ turn b c a
+turn-cycle a b c = ring (coordinates (a ∷ b ∷ c ∷ [])) (D 0 1 2) (D 1 2 0) tt
+
+pub turn-swap : (a b c : Point) → turn a c b ≡ negℤ (turn a b c)
+turn-swap a b c = ring (coordinates (a ∷ b ∷ c ∷ [])) (D 0 2 1) (neg (D 0 1 2)) tt
+
+pub turn-swap-first : (a b c : Point) → turn b a c ≡ negℤ (turn a b c)
+turn-swap-first a b c = ring (coordinates (a ∷ b ∷ c ∷ [])) (D 1 0 2) (neg (D 0 1 2)) tt
+
+pub turn-first : (a c : Point) → turn a a c ≡ pos 0
+turn-first a c = ring (coordinates (a ∷ c ∷ [])) (D 0 0 1) (cst (pos 0)) tt
+
+pub turn-last : (a b : Point) → turn a b b ≡ pos 0
+turn-last a b = ring (coordinates (a ∷ b ∷ [])) (D 0 1 1) (cst (pos 0)) tt
+
+pub turn-ends : (a b : Point) → turn a b a ≡ pos 0
+turn-ends a b = ring (coordinates (a ∷ b ∷ [])) (D 0 1 0) (cst (pos 0)) tt
+
+-- as an affine form of the last point
+pub turn-form : (p q z : Point) → turn p q z ≡ (p .y -ℤ q .y) *ℤ z .x +ℤ (q .x -ℤ p .x) *ℤ z .y +ℤ (p .x *ℤ q .y -ℤ p .y *ℤ q .x)
+turn-form p q z = ring (coordinates (p ∷ q ∷ z ∷ [])) (D 0 1 2) ((Y 0 ⊝ Y 1) ⊗ X 2 ⊕ (X 1 ⊝ X 0) ⊗ Y 2 ⊕ (X 0 ⊗ Y 1 ⊝ Y 0 ⊗ X 1)) tt
+
+-- ---- the scalar product
+
+pub point-path : (p q : Point) → p .x ≡ q .x → p .y ≡ q .y → p ≡ q
+point-path p q e f = λ k. record { x = e k; y = f k }
+
+pub dot-base : (m p : Point) → dot m p m ≡ pos 0
+dot-base m p = ring (coordinates (m ∷ p ∷ [])) (O 0 1 0) (cst (pos 0)) tt
+
+pub dot-zero : (p q : Point) → dot p q q ≡ pos 0 → q ≡ p
+dot-zero p q e = point-path q p (sub-zero→eq (q .x) (p .x) (squares-zero (q .x -ℤ p .x) (q .y -ℤ p .y) e)) (sub-zero→eq (q .y) (p .y) (squares-zero (q .y -ℤ p .y) (q .x -ℤ p .x) (+ℤ-comm ((q .y -ℤ p .y) *ℤ (q .y -ℤ p .y)) ((q .x -ℤ p .x) *ℤ (q .x -ℤ p .x)) ∙ e)))
+
+pub dot-pos : (p q : Point) → (q ≡ p → ⊥) → Pos (dot p q q)
+dot-pos p q ne = go (tri (dot p q q))
+  where
+    go : Tri (dot p q q) → Pos (dot p q q)
+    go (below h) = neg-nn h (nn-add (square-nn (q .x -ℤ p .x)) (square-nn (q .y -ℤ p .y)))
+    go (at-nought e) = absurd (ne (dot-zero p q e))
+    go (above h) = h

@@ -1,0 +1,6 @@
+pub mod Bounds
+pub mod Decided
+pub mod Patch
+pub mod Chains
+pub mod Orientations
+pub mod Promises

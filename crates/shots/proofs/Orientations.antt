@@ -1,0 +1,72 @@
+-- The orientation of three shots is the chirotope of their points, and alternates (document 01, "Shots and orientation").
+--
+--   orient-is-chirotope                          the sign of the determinant of the three points
+--   orient-cycle, orient-swap, orient-swap-first     alternating
+--   orient-repeated                              0 for a repeated shot
+--   right-is-left                                what lies right of a pair lies left of the pair turned
+--   between-says                                 of three shots on a line, which of them lies between the others
+use mathlib.Core.Path.{_≡_, refl, sym, _∙_, ap}
+use mathlib.Core.Logic.{_⊎_, inl, inr, _↔_}
+use mathlib.Core.Bool.{true}
+use mathlib.Core.List.{List}
+use Prim.Native.Nat.{ℕ, _<_}
+use lib.IntN.{ℤ, pos}
+use Rattle.algebra.specs.Loops.{any}
+use Rattle.algebra.specs.Sign.{Sign, minus, nought, plus, signOf, opposite, isMinus, isPlus}
+use Rattle.algebra.specs.Answer.{Reflects}
+use Rattle.algebra.proofs.AnswerLaws.{reflects-iff, reflects-yes, reflects-true, reflects-minus}
+use Rattle.algebra.proofs.SignLaws.{signOf-zero, zero-signOf, signOf-opposite}
+use Rattle.matroid.specs.Points.{chirotope, dot}
+use Rattle.matroid.proofs.Turns.{turn-is-det3, turn-cycle, turn-swap, turn-swap-first, turn-first, turn-last, turn-ends}
+use Rattle.matroid.proofs.Lines.{Between, between-iff}
+use Rattle.shots.specs.Coordinates.{countOf, pointOf, areaOf, orientOf, betweenOf, someLeft, someRight}
+use Rattle.shots.specs.Tests.{refusalOf}
+use Rattle.shots.proofs.Patch.{patch-differ}
+
+minus-plus : (s : Sign) → isMinus s ≡ isPlus (opposite s)
+unfolding opposite
+minus-plus minus = refl
+minus-plus nought = refl
+minus-plus plus = refl
+
+module _ (l : List ℤ) where
+  module _ (a b c : ℕ) where
+    pub orient-is-chirotope : orientOf l a b c ≡ chirotope (pointOf l a) (pointOf l b) (pointOf l c)
+    unfolding orientOf areaOf
+    orient-is-chirotope = ap signOf (turn-is-det3 (pointOf l a) (pointOf l b) (pointOf l c))
+
+    pub orient-cycle : orientOf l a b c ≡ orientOf l b c a
+    unfolding orientOf areaOf
+    orient-cycle = ap signOf (turn-cycle (pointOf l a) (pointOf l b) (pointOf l c))
+
+    pub orient-swap : orientOf l a c b ≡ opposite (orientOf l a b c)
+    unfolding orientOf areaOf
+    orient-swap = ap signOf (turn-swap (pointOf l a) (pointOf l b) (pointOf l c)) ∙ signOf-opposite (areaOf l a b c)
+
+    pub orient-swap-first : orientOf l b a c ≡ opposite (orientOf l a b c)
+    unfolding orientOf areaOf
+    orient-swap-first = ap signOf (turn-swap-first (pointOf l a) (pointOf l b) (pointOf l c)) ∙ signOf-opposite (areaOf l a b c)
+
+    pub orient-repeated : (a ≡ b) ⊎ ((b ≡ c) ⊎ (a ≡ c)) → orientOf l a b c ≡ nought
+    unfolding orientOf areaOf
+    orient-repeated (inl e) = rw e (signOf-zero (areaOf l b b c) (turn-first (pointOf l b) (pointOf l c)))
+    orient-repeated (inr (inl e)) = rw e (signOf-zero (areaOf l a c c) (turn-last (pointOf l a) (pointOf l c)))
+    orient-repeated (inr (inr e)) = rw e (signOf-zero (areaOf l c b c) (turn-ends (pointOf l c) (pointOf l b)))
+
+  pub right-is-left : (i j : ℕ) → someRight l i j ≡ someLeft l j i
+  unfolding someRight someLeft
+  right-is-left i j = λ t. any (countOf l) (λ k. turned k t)
+    where
+      turned : (k : ℕ) → isMinus (orientOf l i j k) ≡ isPlus (orientOf l j i k)
+      turned k = minus-plus (orientOf l i j k) ∙ ap isPlus (sym (orient-swap-first i j k))
+
+  between-decided : (m a b : ℕ) → areaOf l m a b ≡ pos 0 → (pointOf l m ≡ pointOf l b → ⊥) → Reflects (Between (pointOf l m) (pointOf l a) (pointOf l b)) (betweenOf l m a b)
+  unfolding areaOf betweenOf
+  between-decided m a b e ne = reflects-iff (between-iff (pointOf l m) (pointOf l a) (pointOf l b) e ne) (reflects-minus (dot (pointOf l m) (pointOf l a) (pointOf l b)))
+
+  pub between-says : refusalOf l ≡ 0 → (m a b : ℕ) → m < countOf l → a < countOf l → b < countOf l → (m ≡ a → ⊥) → (m ≡ b → ⊥) → orientOf l m a b ≡ nought → (betweenOf l m a b ≡ true) ↔ Between (pointOf l m) (pointOf l a) (pointOf l b)
+  unfolding orientOf areaOf
+  between-says h m a b ml al bl ma mb e = (λ t. reflects-yes decided t, λ s. reflects-true decided s)
+    where
+      decided : Reflects (Between (pointOf l m) (pointOf l a) (pointOf l b)) (betweenOf l m a b)
+      decided = between-decided m a b (zero-signOf (areaOf l m a b) e) (patch-differ l h m b ml bl mb)

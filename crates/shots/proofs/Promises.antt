@@ -1,0 +1,162 @@
+-- What the public calls of this room promise: each gives a refusal number exactly when that number's line of document 01's table is the first that holds,
+-- its value exactly when no line holds, and no other answer is permitted.
+--
+--   shots-decided, orientation-decided, cocircuit-decided    the rules of the calls decide the lines of their tables
+--   accept-refuses, orientation-refuses, double-area-refuses, cocircuit-refuses, border-refuses
+--   accept-gives, orientation-gives, double-area-gives, cocircuit-gives, border-gives
+--   cocircuit-signs, cocircuit-refused                       the array beside the answer
+--   accept-one, orientation-one, double-area-one, cocircuit-one, border-one    two permitted answers are the same
+use mathlib.Core.Path.{_≡_, refl, ap}
+use mathlib.Core.Logic.{_⊎_, _↔_}
+use mathlib.Core.List.{List, [], _∷_, _++_}
+use Prim.Native.Nat.{ℕ}
+use lib.ListN.{replicate}
+use lib.IntN.{ℤ, pos, natAbs}
+use Rattle.algebra.specs.Answer.{Answer, gives, refuses, First, Clear, Decides}
+use Rattle.algebra.specs.Loops.{tabulate, tally}
+use Rattle.algebra.specs.Sign.{value}
+use Rattle.algebra.proofs.AnswerLaws.{chain-refuses, chain-gives, one-answer, decides-append, reflects-or, reflects-leb}
+use Rattle.shots.specs.Sizes.{shotsMost}
+use Rattle.shots.specs.Coordinates.{countOf, areaOf, orientOf}
+use Rattle.shots.specs.Tests.{shotRules}
+use Rattle.shots.specs.Lines.{NotShot, NotPair, shotLines, orientationLines, cocircuitLines}
+use Rattle.shots.specs.Calls.{readAccepted, readOriented, readMeasured, readCounted, Cocircuit, readSigns, acceptOf, shotsRule, orientationOf, doubleAreaOf, pairRule, signAt, signsWith, cocircuitOf, bordersOf, borderCallOf}
+use Rattle.shots.specs.declared.Accepted.{Accepted}
+use Rattle.shots.specs.declared.Accepted.the-variants as A
+use Rattle.shots.specs.declared.Oriented.{Oriented}
+use Rattle.shots.specs.declared.Oriented.the-variants as O
+use Rattle.shots.specs.declared.Measured.{Measured}
+use Rattle.shots.specs.declared.Measured.the-variants as M
+use Rattle.shots.specs.declared.Counted.{Counted}
+use Rattle.shots.specs.declared.Counted.the-variants as C
+use Rattle.shots.specs.declared.Signs.{Signs}
+use Rattle.shots.proofs.Decided.{count-decided, far-decided, same-decided, line-decided}
+
+module _ (l : List ℤ) where
+  -- ---- the rules decide the lines
+
+  pub shots-decided : Decides (shotRules l) (shotLines l)
+  shots-decided = (refl, count-decided l, (refl, far-decided l, (refl, same-decided l, (refl, line-decided l, tt))))
+
+  pub orientation-decided : (a b c : ℕ) → Decides (shotRules l ++ shotsRule l a b c ∷ []) (orientationLines l a b c)
+  orientation-decided a b c =
+      decides-append (shotRules l) (shotsRule l a b c ∷ []) (shotLines l) (record { number = 7; when = NotShot l a ⊎ (NotShot l b ⊎ NotShot l c) } ∷ []) shots-decided
+      (refl, reflects-or (reflects-leb (countOf l) a) (reflects-or (reflects-leb (countOf l) b) (reflects-leb (countOf l) c)), tt)
+
+  pub cocircuit-decided : (i j : ℕ) → Decides (shotRules l ++ pairRule l i j ∷ []) (cocircuitLines l i j)
+  cocircuit-decided i j =
+      decides-append (shotRules l) (pairRule l i j ∷ []) (shotLines l) (record { number = 7; when = NotPair l i j } ∷ []) shots-decided
+      (refl, reflects-or (reflects-leb (countOf l) i) (reflects-or (reflects-leb (countOf l) j) (reflects-leb j i)), tt)
+
+  -- ---- accept
+
+  pub accept-refuses : (n : ℕ) → (acceptOf l ≡ refuses n) ↔ First n (shotLines l)
+  unfolding acceptOf
+  accept-refuses n = chain-refuses (shotRules l) (shotLines l) tt n shots-decided
+
+  pub accept-gives : (v : Unit {0}) → (acceptOf l ≡ gives v) ↔ (Clear (shotLines l) × (tt ≡ v))
+  unfolding acceptOf
+  accept-gives v = chain-gives (shotRules l) (shotLines l) tt v shots-decided
+
+  -- ---- orientation
+
+  pub orientation-refuses : (a b c n : ℕ) → (orientationOf l a b c ≡ refuses n) ↔ First n (orientationLines l a b c)
+  unfolding orientationOf
+  orientation-refuses a b c n = chain-refuses _ (orientationLines l a b c) _ n (orientation-decided a b c)
+
+  pub orientation-gives : (a b c : ℕ) (v : ℤ) → (orientationOf l a b c ≡ gives v) ↔ (Clear (orientationLines l a b c) × (value (orientOf l a b c) ≡ v))
+  unfolding orientationOf
+  orientation-gives a b c v = chain-gives _ (orientationLines l a b c) _ v (orientation-decided a b c)
+
+  -- ---- double area
+
+  pub double-area-refuses : (a b c n : ℕ) → (doubleAreaOf l a b c ≡ refuses n) ↔ First n (orientationLines l a b c)
+  unfolding doubleAreaOf
+  double-area-refuses a b c n = chain-refuses _ (orientationLines l a b c) _ n (orientation-decided a b c)
+
+  pub double-area-gives : (a b c v : ℕ) → (doubleAreaOf l a b c ≡ gives v) ↔ (Clear (orientationLines l a b c) × (natAbs (areaOf l a b c) ≡ v))
+  unfolding doubleAreaOf
+  double-area-gives a b c v = chain-gives _ (orientationLines l a b c) _ v (orientation-decided a b c)
+
+  -- ---- cocircuit
+
+  pub cocircuit-refuses : (i j n : ℕ) → (cocircuitOf l i j .answer ≡ refuses n) ↔ First n (cocircuitLines l i j)
+  unfolding cocircuitOf
+  cocircuit-refuses i j n = chain-refuses _ (cocircuitLines l i j) tt n (cocircuit-decided i j)
+
+  pub cocircuit-gives : (i j : ℕ) (v : Unit {0}) → (cocircuitOf l i j .answer ≡ gives v) ↔ (Clear (cocircuitLines l i j) × (tt ≡ v))
+  unfolding cocircuitOf
+  cocircuit-gives i j v = chain-gives _ (cocircuitLines l i j) tt v (cocircuit-decided i j)
+
+  pub cocircuit-signs : (i j : ℕ) → Clear (cocircuitLines l i j) → cocircuitOf l i j .signs ≡ tabulate shotsMost (signAt l i j)
+  unfolding cocircuitOf
+  cocircuit-signs i j h = ap (λ (x : Answer (Unit {0})). signsWith x (tabulate shotsMost (signAt l i j))) (cocircuit-gives i j tt .1 (h, refl))
+
+  pub cocircuit-refused : (i j n : ℕ) → First n (cocircuitLines l i j) → cocircuitOf l i j .signs ≡ replicate shotsMost (pos 0)
+  unfolding cocircuitOf
+  cocircuit-refused i j n h = ap (λ (x : Answer (Unit {0})). signsWith x (tabulate shotsMost (signAt l i j))) (cocircuit-refuses i j n .1 h)
+
+  -- ---- border
+
+  pub border-refuses : (n : ℕ) → (borderCallOf l ≡ refuses n) ↔ First n (shotLines l)
+  unfolding borderCallOf
+  border-refuses n = chain-refuses (shotRules l) (shotLines l) _ n shots-decided
+
+  pub border-gives : (v : ℕ) → (borderCallOf l ≡ gives v) ↔ (Clear (shotLines l) × (tally (countOf l) (bordersOf l) ≡ v))
+  unfolding borderCallOf
+  border-gives v = chain-gives (shotRules l) (shotLines l) _ v shots-decided
+
+-- ---- one answer: each reading can be undone
+
+abbrev acceptedAs : Answer (Unit {0}) → Accepted
+acceptedAs (gives v) = A.Accepted
+acceptedAs (refuses n) = A.Refused n
+
+accepted-back : (r : Accepted) → acceptedAs (readAccepted r) ≡ r
+accepted-back A.Accepted = refl
+accepted-back (A.Refused n) = refl
+
+abbrev orientedAs : Answer ℤ → Oriented
+orientedAs (gives s) = O.Sign s
+orientedAs (refuses n) = O.Refused n
+
+oriented-back : (r : Oriented) → orientedAs (readOriented r) ≡ r
+oriented-back (O.Sign s) = refl
+oriented-back (O.Refused n) = refl
+
+abbrev measuredAs : Answer ℕ → Measured
+measuredAs (gives x) = M.Area x
+measuredAs (refuses n) = M.Refused n
+
+measured-back : (r : Measured) → measuredAs (readMeasured r) ≡ r
+measured-back (M.Area x) = refl
+measured-back (M.Refused n) = refl
+
+abbrev countedAs : Answer ℕ → Counted
+countedAs (gives k) = C.Count k
+countedAs (refuses n) = C.Refused n
+
+counted-back : (r : Counted) → countedAs (readCounted r) ≡ r
+counted-back (C.Count k) = refl
+counted-back (C.Refused n) = refl
+
+abbrev signsAs : Cocircuit → Signs
+signsAs c = record { answer = acceptedAs (c .answer); signs = c .signs }
+
+signs-back : (r : Signs) → signsAs (readSigns r) ≡ r
+signs-back r = λ t. record { answer = accepted-back (r .answer) t; signs = r .signs }
+
+pub accept-one : (l : List ℤ) (r r′ : Accepted) → readAccepted r ≡ acceptOf l → readAccepted r′ ≡ acceptOf l → r ≡ r′
+accept-one l r r′ = one-answer readAccepted acceptedAs accepted-back
+
+pub orientation-one : (l : List ℤ) (a b c : ℕ) (r r′ : Oriented) → readOriented r ≡ orientationOf l a b c → readOriented r′ ≡ orientationOf l a b c → r ≡ r′
+orientation-one l a b c r r′ = one-answer readOriented orientedAs oriented-back
+
+pub double-area-one : (l : List ℤ) (a b c : ℕ) (r r′ : Measured) → readMeasured r ≡ doubleAreaOf l a b c → readMeasured r′ ≡ doubleAreaOf l a b c → r ≡ r′
+double-area-one l a b c r r′ = one-answer readMeasured measuredAs measured-back
+
+pub cocircuit-one : (l : List ℤ) (i j : ℕ) (r r′ : Signs) → readSigns r ≡ cocircuitOf l i j → readSigns r′ ≡ cocircuitOf l i j → r ≡ r′
+cocircuit-one l i j r r′ = one-answer readSigns signsAs signs-back
+
+pub border-one : (l : List ℤ) (r r′ : Counted) → readCounted r ≡ borderCallOf l → readCounted r′ ≡ borderCallOf l → r ≡ r′
+border-one l r r′ = one-answer readCounted countedAs counted-back

@@ -1,0 +1,44 @@
+-- `shots::tests::bent_before` meets its contract: none so far is bent.
+use mathlib.Core.Path.{_≡_}
+use mathlib.Core.Bool.{false}
+use Prim.Native.Nat.{_-_, _≤_}
+use borrow.Author.Needs.{needs}
+use Rattle.algebra.specs.Loops.{any}
+use Rattle.algebra.proofs.LoopLaws.{any-none, found, go-on, none}
+use Rattle.shots.specs.Tests.{bentOf, bentBefore}
+use Rattle.shots.proofs.tests.bent_before.Statement.{statement}
+use Rattle.shots.proofs.tests.bent_before.Tie as tie
+
+abbrev Inv-loop : tie.InvT-loop
+Inv-loop shots c b₀ b = (b ≤ c) × (any b (bentOf shots c) ≡ false)
+
+abbrev μ-loop : tie.MeasureT-loop
+μ-loop shots c b₀ b = c - b
+
+loop-holds : tie.Need-loop-holds Inv-loop μ-loop
+loop-holds c = (search needs, any-none _)
+
+returns : tie.Need-returns Inv-loop μ-loop
+unfolding bentBefore
+returns c = found _ _ _ (c .before .before .loop-test .taken) (c .before .bent-of .ensures) (c .if1 .taken)
+
+loop-again : tie.Need-loop-again Inv-loop μ-loop
+loop-again c = (search needs, go-on _ _ (c .before .before .before .loop .inv .1) (c .before .bent-of .ensures) (c .if1 .left))
+
+returns-2 : tie.Need-returns-2 Inv-loop μ-loop
+unfolding bentBefore
+returns-2 c = none _ _ _ (c .before .loop .inv .0) (c .loop-test .left) (c .before .loop .inv .1)
+
+pub bent-before-spec : {M : Type 1} → statement M
+bent-before-spec =
+    tie.close
+    (tie.spec
+    Inv-loop
+    μ-loop
+    loop-holds
+    (λ c κs. search needs)
+    returns
+    (λ c. search needs)
+    (λ c. search needs)
+    loop-again
+    returns-2)

@@ -1,0 +1,5 @@
+pub mod Sizes
+pub mod Coordinates
+pub mod Tests
+pub mod Lines
+pub mod Calls

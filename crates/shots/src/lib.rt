@@ -1,0 +1,120 @@
+// Shots: one lent run of coordinates, whole millimetres, x then y of each shot. Coordinates are read in this room alone.
+//
+//   accept         is the run a patch?                                     1 2 3 4
+//   orientation    the sign of three shots, -1, 0 or 1                     1-4, 7
+//   double_area    the size of their double area                           1-4, 7
+//   cocircuit      the orientation of a pair with every shot               1-4, 7
+//   border         the number of border pairs                              1-4
+//
+// Every call takes every input; specs/Calls.antt says what it answers, specs/Lines.antt when it refuses.
+ghost use mathlib.Core.Path.{_≡_};
+ghost use Rattle.shots.specs.Calls.{readAccepted, readOriented, readMeasured, readSigns, readCounted, acceptOf, orientationOf, doubleAreaOf, cocircuitOf, borderCallOf};
+
+pub mod pairs;
+pub mod plane;
+pub mod tests;
+
+// A patch has this many shots at least, and at most.
+pub const SHOTS_LEAST: usize = 3;
+
+pub const SHOTS_MOST: usize = 10;
+
+// A coordinate lies between these, both included.
+pub const LOWEST: i32 = -1000000;
+
+pub const HIGHEST: i32 = 1000000;
+
+pub enum Accepted {
+    Accepted,
+    Refused(u8),
+}
+
+pub enum Oriented {
+    Sign(i8),
+    Refused(u8),
+}
+
+pub enum Measured {
+    Area(u64),
+    Refused(u8),
+}
+
+pub enum Counted {
+    Count(usize),
+    Refused(u8),
+}
+
+// The signs stand beside the answer: 0 past the shots, and 0 everywhere where the call is refused.
+pub struct Signs {
+    pub answer: Accepted,
+    pub signs: [i8; SHOTS_MOST],
+}
+
+pub fn accept(shots: &[i32]) -> Accepted
+    ensures { λ r. ⌜ readAccepted r ≡ acceptOf (now (shots .entry)) ⌝ }
+{
+    let refusal = tests::refusal(shots);
+    if refusal != 0 {
+        return Accepted::Refused(refusal);
+    }
+    Accepted::Accepted
+}
+
+pub fn orientation(shots: &[i32], a: usize, b: usize, c: usize) -> Oriented
+    ensures { λ r. ⌜ readOriented r ≡ orientationOf (now (shots .entry)) a b c ⌝ }
+{
+    let refusal = tests::refusal(shots);
+    if refusal != 0 {
+        return Oriented::Refused(refusal);
+    }
+    if tests::no_shot(shots.len() / 2, a, b, c) {
+        return Oriented::Refused(7);
+    }
+    Oriented::Sign(plane::sign(shots, a, b, c))
+}
+
+pub fn double_area(shots: &[i32], a: usize, b: usize, c: usize) -> Measured
+    ensures { λ r. ⌜ readMeasured r ≡ doubleAreaOf (now (shots .entry)) a b c ⌝ }
+{
+    let refusal = tests::refusal(shots);
+    if refusal != 0 {
+        return Measured::Refused(refusal);
+    }
+    if tests::no_shot(shots.len() / 2, a, b, c) {
+        return Measured::Refused(7);
+    }
+    Measured::Area(plane::size(shots, a, b, c))
+}
+
+pub fn cocircuit(shots: &[i32], i: usize, j: usize) -> Signs
+    ensures { λ r. ⌜ readSigns r ≡ cocircuitOf (now (shots .entry)) i j ⌝ }
+{
+    let refusal = tests::refusal(shots);
+    if refusal != 0 {
+        return Signs {
+            answer: Accepted::Refused(refusal),
+            signs: [0; SHOTS_MOST],
+        };
+    }
+    if tests::no_pair(shots.len() / 2, i, j) {
+        return Signs {
+            answer: Accepted::Refused(7),
+            signs: [0; SHOTS_MOST],
+        };
+    }
+    let signs = pairs::signs_of(shots, i, j);
+    Signs {
+        answer: Accepted::Accepted,
+        signs,
+    }
+}
+
+pub fn border(shots: &[i32]) -> Counted
+    ensures { λ r. ⌜ readCounted r ≡ borderCallOf (now (shots .entry)) ⌝ }
+{
+    let refusal = tests::refusal(shots);
+    if refusal != 0 {
+        return Counted::Refused(refusal);
+    }
+    Counted::Count(pairs::border_count(shots))
+}

@@ -1,0 +1,92 @@
+// Pairs of shots that are known to be there and near: their cocircuits, and which of them are border pairs.
+ghost use mathlib.Core.Path.{_≡_};
+ghost use mathlib.Core.Bool.{cond};
+ghost use Prim.Native.Nat.{_≤_, _<_};
+ghost use Rattle.algebra.specs.Loops.{tabulate, tally};
+ghost use Rattle.shots.specs.Sizes.{shotsMost};
+ghost use Rattle.shots.specs.Coordinates.{countOf, someLeft, borderOf};
+ghost use Rattle.shots.specs.Tests.{Near};
+ghost use Rattle.shots.specs.Calls.{signAt, bordersOf};
+use super::SHOTS_MOST;
+use super::plane;
+
+// The sign of place k in the cocircuit of i, j: 0 past the shots.
+fn sign_at(shots: &[i32], i: usize, j: usize, k: usize) -> i8
+    requires { ⌜ (i < countOf (now shots)) × (j < countOf (now shots)) × Near (now shots) ⌝ }
+    ensures { λ r. ⌜ r ≡ signAt (now (shots .entry)) i j k ⌝ }
+{
+    if k < shots.len() / 2 {
+        return plane::sign(shots, i, j, k);
+    }
+    0
+}
+
+pub fn signs_of(shots: &[i32], i: usize, j: usize) -> [i8; SHOTS_MOST]
+    requires { ⌜ (i < countOf (now shots)) × (j < countOf (now shots)) × Near (now shots) ⌝ }
+    ensures { λ r. ⌜ r ≡ tabulate shotsMost (signAt (now (shots .entry)) i j) ⌝ }
+{
+    let mut signs = [0; SHOTS_MOST];
+    let mut k = 0;
+    while k < SHOTS_MOST {
+        signs[k] = sign_at(shots, i, j, k);
+        k += 1;
+    }
+    signs
+}
+
+// Whether some shot lies left of i, j.
+fn some_left(shots: &[i32], i: usize, j: usize) -> bool
+    requires { ⌜ (i < countOf (now shots)) × (j < countOf (now shots)) × Near (now shots) ⌝ }
+    ensures { λ r. ⌜ r ≡ someLeft (now (shots .entry)) i j ⌝ }
+{
+    let n = shots.len() / 2;
+    let mut k = 0;
+    while k < n {
+        if plane::sign(shots, i, j, k) == 1 {
+            return true;
+        }
+        k += 1;
+    }
+    false
+}
+
+// What lies right of i, j lies left of j, i.
+pub fn is_border(shots: &[i32], i: usize, j: usize) -> bool
+    requires { ⌜ (i < countOf (now shots)) × (j < countOf (now shots)) × Near (now shots) ⌝ }
+    ensures { λ r. ⌜ r ≡ borderOf (now (shots .entry)) i j ⌝ }
+{
+    if some_left(shots, i, j) {
+        return !some_left(shots, j, i);
+    }
+    true
+}
+
+// How many border pairs have j as their larger shot.
+fn borders_of(shots: &[i32], j: usize) -> usize
+    requires { ⌜ (j < countOf (now shots)) × Near (now shots) ⌝ }
+    ensures { λ r. ⌜ r ≡ bordersOf (now (shots .entry)) j ⌝ }
+{
+    let mut count = 0;
+    let mut i = 0;
+    while i < j {
+        if is_border(shots, i, j) {
+            count += 1;
+        }
+        i += 1;
+    }
+    count
+}
+
+pub fn border_count(shots: &[i32]) -> usize
+    requires { ⌜ (countOf (now shots) ≤ shotsMost) × Near (now shots) ⌝ }
+    ensures { λ r. ⌜ r ≡ tally (countOf (now (shots .entry))) (bordersOf (now (shots .entry))) ⌝ }
+{
+    let n = shots.len() / 2;
+    let mut count = 0;
+    let mut j = 0;
+    while j < n {
+        count += borders_of(shots, j);
+        j += 1;
+    }
+    count
+}
