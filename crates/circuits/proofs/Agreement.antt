@@ -86,11 +86,16 @@ module _ (l : List ℤ) (ok : refusalOf l ≡ 0) where
     four-same : (i : ℕ) → signOn (terms4 l (q .a) (q .b) (q .c) (q .d)) i ≡ Y4 i
     unfolding Y4 orientOf areaOf
     four-same i =
-        match-at i (Y4 i) (terms4 l (q .a) (q .b) (q .c) (q .d))
-        (λ e. ap Y4 e ∙ ap signOf (weights4-a P (q .a) (q .b) (q .c) (q .d) (q .ab) (q .bc) (q .cd)),
-        (λ e. ap Y4 e ∙ ap signOf (weights4-b P (q .a) (q .b) (q .c) (q .d) (q .ab) (q .bc) (q .cd)) ∙ signOf-opposite (turn (P (q .a)) (P (q .c)) (P (q .d))),
-        (λ e. ap Y4 e ∙ ap signOf (weights4-c P (q .a) (q .b) (q .c) (q .d) (q .ab) (q .bc) (q .cd)),
-        (λ e. ap Y4 e ∙ ap signOf (weights4-d P (q .a) (q .b) (q .c) (q .d) (q .ab) (q .bc) (q .cd)) ∙ signOf-opposite (turn (P (q .a)) (P (q .b)) (P (q .c))), tt))))
+        match-at i (Y4 i) (terms4 l (q .a) (q .b) (q .c) (q .d)) (
+          λ e. ap Y4 e ∙ ap signOf (weights4-a P (q .a) (q .b) (q .c) (q .d) (q .ab) (q .bc) (q .cd)),
+          (
+            λ e. ap Y4 e ∙ ap signOf (weights4-b P (q .a) (q .b) (q .c) (q .d) (q .ab) (q .bc) (q .cd)) ∙ signOf-opposite (turn (P (q .a)) (P (q .c)) (P (q .d))),
+            (
+              λ e. ap Y4 e ∙ ap signOf (weights4-c P (q .a) (q .b) (q .c) (q .d) (q .ab) (q .bc) (q .cd)),
+              (λ e. ap Y4 e ∙ ap signOf (weights4-d P (q .a) (q .b) (q .c) (q .d) (q .ab) (q .bc) (q .cd)) ∙ signOf-opposite (turn (P (q .a)) (P (q .b)) (P (q .c))), tt),
+            ),
+          ),
+        )
         (λ o. signOf-zero _ (weights4-off P (q .a) (q .b) (q .c) (q .d) i (o .0) (o .1 .0) (o .1 .1 .0) (o .1 .1 .1 .0)))
 
     bent-nz : (a b c : ℕ) → isNought (orientOf l a b c) ≡ false → NZ (turn (P a) (P b) (P c))
@@ -160,18 +165,26 @@ module _ (l : List ℤ) (ok : refusalOf l ≡ 0) where
       where
         turned : (x y z : Sign) → signOf (dot A B C) ≡ x → signOf (dot B A C) ≡ y → signOf (dot C A B) ≡ z → endSign (isMinus x) ≡ opposite z → endSign (isMinus y) ≡ plus → endSign (isMinus z) ≡ opposite x → (i : ℕ) → signOn (terms3 l (t .a) (t .b) (t .c)) i ≡ opposite (Y3 i)
         turned x y z dx dy dz u v w i =
-            match-at i (opposite (Y3 i)) (terms3 l (t .a) (t .b) (t .c))
-            (λ e. ap opposite (ap Y3 e ∙ at-a ∙ dz) ∙ sym u ∙ sym (end-sign (t .a) (t .b) (t .c) dx),
-            (λ e. ap opposite (ap Y3 e ∙ at-b) ∙ sym v ∙ sym (end-sign (t .b) (t .a) (t .c) dy),
-            (λ e. ap opposite (ap Y3 e ∙ at-c ∙ dx) ∙ sym w ∙ sym (end-sign (t .c) (t .a) (t .b) dz), tt)))
+            match-at i (opposite (Y3 i)) (terms3 l (t .a) (t .b) (t .c)) (
+              λ e. ap opposite (ap Y3 e ∙ at-a ∙ dz) ∙ sym u ∙ sym (end-sign (t .a) (t .b) (t .c) dx),
+              (
+                λ e. ap opposite (ap Y3 e ∙ at-b) ∙ sym v ∙ sym (end-sign (t .b) (t .a) (t .c) dy),
+                (λ e. ap opposite (ap Y3 e ∙ at-c ∙ dx) ∙ sym w ∙ sym (end-sign (t .c) (t .a) (t .b) dz), tt),
+              ),
+            )
             (λ o. ap opposite (off i (o .0) (o .1 .0) (o .1 .1 .0)))
+
         kept : signOf (dot A B C) ≡ plus → signOf (dot B A C) ≡ minus → signOf (dot C A B) ≡ plus → (i : ℕ) → signOn (terms3 l (t .a) (t .b) (t .c)) i ≡ Y3 i
         kept dx dy dz i =
-            match-at i (Y3 i) (terms3 l (t .a) (t .b) (t .c))
-            (λ e. ap Y3 e ∙ at-a ∙ dz ∙ sym (end-sign (t .a) (t .b) (t .c) dx),
-            (λ e. ap Y3 e ∙ at-b ∙ sym (end-sign (t .b) (t .a) (t .c) dy),
-            (λ e. ap Y3 e ∙ at-c ∙ dx ∙ sym (end-sign (t .c) (t .a) (t .b) dz), tt)))
+            match-at i (Y3 i) (terms3 l (t .a) (t .b) (t .c)) (
+              λ e. ap Y3 e ∙ at-a ∙ dz ∙ sym (end-sign (t .a) (t .b) (t .c) dx),
+              (
+                λ e. ap Y3 e ∙ at-b ∙ sym (end-sign (t .b) (t .a) (t .c) dy),
+                (λ e. ap Y3 e ∙ at-c ∙ dx ∙ sym (end-sign (t .c) (t .a) (t .b) dz), tt),
+              ),
+            )
             (λ o. off i (o .0) (o .1 .0) (o .1 .1 .0))
+
         go : (Neg (dot A B C) × Pos (dot B A C) × Pos (dot C A B)) ⊎ ((Pos (dot A B C) × Neg (dot B A C) × Pos (dot C A B)) ⊎ (Pos (dot A B C) × Pos (dot B A C) × Neg (dot C A B)))
             → Same (signOn (terms3 l (t .a) (t .b) (t .c))) Y3
         go (inl r) = inr (turned minus plus plus (signOf-neg _ (r .0)) (signOf-pos _ (r .1)) (signOf-pos _ (r .2)) refl refl refl)
@@ -236,6 +249,7 @@ module _ (l : List ℤ) (ok : refusalOf l ≡ 0) where
       joined f y (inl s) (inr x) = inr (λ i k. x i k ∙ ap opposite (sym (s i)))
       joined f y (inr s) (inl x) = inr (λ i k. x i k ∙ sym (turn-twice (signIn y) (λ j. signOf (f j)) s i))
       joined f y (inr s) (inr x) = inl (λ i k. x i k ∙ sym (s i))
+
       found : (f : ℕ → ℤ) × Elementary n P f × (Alike n X (λ i. signOf (f i)) ⊎ Alike n X (against (λ i. signOf (f i)))) → (z : ℕ) × (z < length (circuitsOf l)) × (Alike n X (signIn (circuitAt l z)) ⊎ Alike n X (against (signIn (circuitAt l z))))
       found r =
           let y = circuit-of (r .1) in
@@ -249,8 +263,10 @@ numbered-once l z z′ h h′ a = go (ℕ-discrete z z′)
   where
     there : (i : ℕ) → i < countOf l → signIn (circuitAt l z′) i ≡ nought → signIn (circuitAt l z) i ≡ nought
     there i k e = ⊎-elim (λ x. x i k ∙ e) (λ x. x i k ∙ nought-opposite (signIn (circuitAt l z′) i) e) a
+
     back : (i : ℕ) → i < countOf l → signIn (circuitAt l z) i ≡ nought → signIn (circuitAt l z′) i ≡ nought
     back i k e = ⊎-elim (λ x. sym (x i k) ∙ e) (λ x. opposite-nought (signIn (circuitAt l z′) i) (sym (x i k) ∙ e)) a
+
     go : Dec (z ≡ z′) → z ≡ z′
     go (yes e) = e
     go (no ne) = absurd (⊎-elim (λ o. o .2 (there (o .0) (o .1) (o .3))) (λ o. o .2 (back (o .0) (o .1) (o .3))) (numbers-differ l (record { plus = []; minus = [] }) z z′ h h′ ne))

@@ -107,6 +107,7 @@ module _ (p m p₀ m₀ : List ℕ) (r : ℕ) (zs : List Circuit) (e : filled p 
   pub poured-at : (d : Circuit) (z : ℕ) → z < length zs → length zs ≤ length p₀ → length zs ≤ length m₀ → (getD p z 0 ≡ maskOf (getD zs z d .plus)) × (getD m z 0 ≡ maskOf (getD zs z d .minus))
   poured-at d z h k j =
       let a = pour-at (filled p₀ m₀ 0) zs d z h (omega arith, omega arith) in
-      let q : z ≡ 0 + z = omega arith in
-      (ap (λ (f : Filled). getD (f .plus) z 0) e ∙ ap (λ (i : ℕ). getD (pour (filled p₀ m₀ 0) zs .plus) i 0) q ∙ a .0,
-      ap (λ (f : Filled). getD (f .minus) z 0) e ∙ ap (λ (i : ℕ). getD (pour (filled p₀ m₀ 0) zs .minus) i 0) q ∙ a .1)
+      let q : z ≡ 0 + z = omega arith in (
+        ap (λ (f : Filled). getD (f .plus) z 0) e ∙ ap (λ (i : ℕ). getD (pour (filled p₀ m₀ 0) zs .plus) i 0) q ∙ a .0,
+        ap (λ (f : Filled). getD (f .minus) z 0) e ∙ ap (λ (i : ℕ). getD (pour (filled p₀ m₀ 0) zs .minus) i 0) q ∙ a .1,
+      )

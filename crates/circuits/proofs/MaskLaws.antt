@@ -71,8 +71,10 @@ gather-is z s (t ∷ ts) h k = gather-is (joined z (t .shot) (sameSign s (t .sig
   where
     p : ℕ
     p = maskOf (side s ts)
+
     m : ℕ
     m = maskOf (side (opposite s) ts)
+
     go : (a b : Bool) → b ≡ not a
         → _≡_ {A = Sides} (record { plus = joined z (t .shot) a .plus + p; minus = joined z (t .shot) a .minus + m })
         (record { plus = z .plus + maskOf (cond a (t .shot ∷ side s ts) (side s ts)); minus = z .minus + maskOf (cond b (t .shot ∷ side (opposite s) ts) (side (opposite s) ts)) })

@@ -62,6 +62,7 @@ on-side s lo (t ∷ ts) i h r = go (ℕ-discrete i (t .shot)) (on-side s (suc (t
     back : (b : Bool) → (b || false) ≡ b
     back true = refl
     back false = refl
+
     go : Dec (i ≡ t .shot) → isOn i (side s ts) ≡ sameSign s (signOn ts i) → isOn i (cond (sameSign s (t .sign)) (t .shot ∷ side s ts) (side s ts)) ≡ sameSign s (cond (eqb i (t .shot)) (t .sign) (signOn ts i))
     go (yes e) ih =
         on-cond (sameSign s (t .sign)) true i (t .shot) (side s ts) (eq-eqb i (t .shot) e)

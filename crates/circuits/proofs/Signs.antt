@@ -55,6 +55,7 @@ module _ (n : ℕ) (z : Circuit) (m : Made n z) where
     where
       before : i < m .first .shot → ⊥
       before l = minus-nought (sym e ∙ lacks i (early-off (m .first .shot) i ts (omega arith, m .rising .1) l))
+
       go : Dec (m .first .shot < i) → Dec (i ≡ m .first .shot) → m .first .shot < i
       go (yes l) d = l
       go (no l) (yes q) = plus-minus (sym first-is-plus ∙ ap (signIn z) (sym q) ∙ e)
@@ -116,6 +117,7 @@ module _ (l : List ℤ) where
       low (inl e) = let p = t .ab in let q = t .bc in let r = t .cn in omega arith
       low (inr (inl e)) = let q = t .bc in let r = t .cn in omega arith
       low (inr (inr e)) = let r = t .cn in omega arith
+
       on : (i ≡ t .a) ⊎ ((i ≡ t .b) ⊎ (i ≡ t .c)) → (i ≡ t .a) ⊎ ((i ≡ t .b) ⊎ ((i ≡ t .c) ⊎ ⊥))
       on (inl e) = inl e
       on (inr (inl e)) = inr (inl e)
@@ -144,8 +146,10 @@ module _ (l : List ℤ) where
     where
       Among : ℕ → Type 0
       Among x = (x ≡ t .a) ⊎ ((x ≡ t .b) ⊎ (x ≡ t .c))
+
       Free : ℕ → Type 0
       Free x = (x ≡ t .a → ⊥) × (x ≡ t .b → ⊥) × (x ≡ t .c → ⊥)
+
       among : (x : ℕ) → Among x ⊎ Free x
       among x = pick (ℕ-discrete x (t .a)) (ℕ-discrete x (t .b)) (ℕ-discrete x (t .c))
         where
@@ -154,22 +158,27 @@ module _ (l : List ℤ) where
           pick (no f) (yes e) d₃ = inl (inr (inl e))
           pick (no f) (no g) (yes e) = inl (inr (inr e))
           pick (no f) (no g) (no k) = inr (f, g, k)
+
       top : {x : ℕ} → Among x → x ≤ t .c
       top (inl e) = let p = t .ab in let r = t .bc in omega arith
       top (inr (inl e)) = let r = t .bc in omega arith
       top (inr (inr e)) = omega arith
+
       next : {x y : ℕ} → Among x → x < y → y ≤ t .c → x ≤ t .b
       next (inl e) h k = let p = t .ab in omega arith
       next (inr (inl e)) h k = omega arith
       next (inr (inr e)) h k = absurd (omega arith)
+
       lowest : {x y : ℕ} → Among x → x < y → y ≤ t .b → x ≤ t .a
       lowest (inl e) h k = omega arith
       lowest (inr (inl e)) h k = absurd (omega arith)
       lowest (inr (inr e)) h k = let r = t .bc in absurd (omega arith)
+
       none : {x y : ℕ} → Among x → x < y → y ≤ t .a → ⊥
       none (inl e) h k = omega arith
       none (inr (inl e)) h k = let p = t .ab in omega arith
       none (inr (inr e)) h k = let p = t .ab in let r = t .bc in omega arith
+
       go : Among (q .a) ⊎ Free (q .a) → Among (q .b) ⊎ Free (q .b) → Among (q .c) ⊎ Free (q .c) → Among (q .d) ⊎ Free (q .d)
           → (i : ℕ) × ((i ≡ q .a) ⊎ ((i ≡ q .b) ⊎ ((i ≡ q .c) ⊎ (i ≡ q .d)))) × (i ≡ t .a → ⊥) × (i ≡ t .b → ⊥) × (i ≡ t .c → ⊥)
       go (inr f) v₂ v₃ v₄ = (q .a, inl refl, f .0, f .1, f .2)
@@ -289,6 +298,7 @@ module _ (l : List ℤ) where
       turned : Differ N (getD (circuitsOf l) z′ d) (getD (circuitsOf l) z d) → Differ N (getD (circuitsOf l) z d) (getD (circuitsOf l) z′ d)
       turned (inl p) = inr p
       turned (inr p) = inl p
+
       go : Dec (z < z′) → Differ N (getD (circuitsOf l) z d) (getD (circuitsOf l) z′ d)
       go (yes k) = apart-at R (circuitsOf l) d z z′ circuits-apart k h′
       go (no k) = turned (apart-at R (circuitsOf l) d z′ z circuits-apart (omega arith) h)

@@ -132,9 +132,13 @@ module _ (l : List ℤ) (a b c d : ℕ) where
       → sides4 a b c d (not (eqb (ofZ w8 sb) (ofZ w8 sa))) (eqb (ofZ w8 sc) (ofZ w8 sa)) (not (eqb (ofZ w8 sd) (ofZ w8 sa))) ≡ masks (split (terms4 l a b c d))
   four-sides h e f g k =
       let n = none-of (isNought (orientOf l b c d)) (isNought (orientOf l a c d)) (isNought (orientOf l a b d)) (isNought (orientOf l a b c)) h in
-      rw (signs-same (orientOf l b c d) (orientOf l a c d) e f, signs-same (orientOf l b c d) (orientOf l a b d) e g, signs-same (orientOf l b c d) (orientOf l a b c) e k,
-          sym (turned-other (orientOf l b c d) (orientOf l a c d) (n .0) (n .1)) ∙ sym (same-turned (orientOf l b c d) (orientOf l a c d)),
-          sym (turned-other (orientOf l b c d) (orientOf l a b c) (n .0) (n .3)) ∙ sym (same-turned (orientOf l b c d) (orientOf l a b c)))
+      rw (
+        signs-same (orientOf l b c d) (orientOf l a c d) e f,
+        signs-same (orientOf l b c d) (orientOf l a b d) e g,
+        signs-same (orientOf l b c d) (orientOf l a b c) e k,
+        sym (turned-other (orientOf l b c d) (orientOf l a c d) (n .0) (n .1)) ∙ sym (same-turned (orientOf l b c d) (orientOf l a c d)),
+        sym (turned-other (orientOf l b c d) (orientOf l a b c) (n .0) (n .3)) ∙ sym (same-turned (orientOf l b c d) (orientOf l a b c)),
+      )
       (masks-split (record { shot = a; sign = orientOf l b c d })
-        (record { shot = b; sign = opposite (orientOf l a c d) } ∷ record { shot = c; sign = orientOf l a b d } ∷ record { shot = d; sign = opposite (orientOf l a b c) } ∷ [])
-        (n .0, (turned-signed (orientOf l a c d) (n .1), (n .2, (turned-signed (orientOf l a b c) (n .3), tt)))))
+      (record { shot = b; sign = opposite (orientOf l a c d) } ∷ record { shot = c; sign = orientOf l a b d } ∷ record { shot = d; sign = opposite (orientOf l a b c) } ∷ [])
+      (n .0, (turned-signed (orientOf l a c d) (n .1), (n .2, (turned-signed (orientOf l a b c) (n .3), tt)))))

@@ -11,9 +11,8 @@ ghost use Rattle.shots.specs.Tests.{Near};
 ghost use Rattle.circuits.specs.Sizes.{circuitsMost};
 ghost use Rattle.circuits.specs.Numbered.{three, threesWith, threesFrom, threes, four, foursUpon, foursWith, foursFrom, fours, circuitsOf};
 ghost use Rattle.circuits.specs.Filled.{filled, put, pour, Fits};
-
-use super::masks;
 use super::Sides;
+use super::masks;
 
 // One circuit is written at the next place.
 fn put(plus: &mut [u16], minus: &mut [u16], next: usize, z: Sides) -> usize
@@ -26,7 +25,15 @@ fn put(plus: &mut [u16], minus: &mut [u16], next: usize, z: Sides) -> usize
 }
 
 // Three shots a < b < c: a circuit where they are on a line. A shot is on the side of a where both are ends, or both the middle.
-fn three(shots: &[i32], a: usize, b: usize, c: usize, plus: &mut [u16], minus: &mut [u16], next: usize) -> usize
+fn three(
+    shots: &[i32],
+    a: usize,
+    b: usize,
+    c: usize,
+    plus: &mut [u16],
+    minus: &mut [u16],
+    next: usize,
+) -> usize
     requires { ⌜ (a < b) × (b < c) × (c < countOf (now shots)) × Near (now shots) × (countOf (now shots) ≤ shotsMost) × Fits (filled (now plus) (now minus) next) (length (three (now shots) a b c)) ⌝ }
     ensures { λ r. ⌜ filled (now (plus .exit)) (now (minus .exit)) r ≡ pour (filled (now (plus .entry)) (now (minus .entry)) next) (three (now (shots .entry)) a b c) ⌝ }
 {
@@ -41,7 +48,14 @@ fn three(shots: &[i32], a: usize, b: usize, c: usize, plus: &mut [u16], minus: &
 }
 
 // The threes with a and b as their smallest shots.
-fn threes_with(shots: &[i32], a: usize, b: usize, plus: &mut [u16], minus: &mut [u16], next: usize) -> usize
+fn threes_with(
+    shots: &[i32],
+    a: usize,
+    b: usize,
+    plus: &mut [u16],
+    minus: &mut [u16],
+    next: usize,
+) -> usize
     requires { ⌜ (a < b) × (b < countOf (now shots)) × Near (now shots) × (countOf (now shots) ≤ shotsMost) × Fits (filled (now plus) (now minus) next) (length (threesWith (now shots) a b)) ⌝ }
     ensures { λ r. ⌜ filled (now (plus .exit)) (now (minus .exit)) r ≡ pour (filled (now (plus .entry)) (now (minus .entry)) next) (threesWith (now (shots .entry)) a b) ⌝ }
 {
@@ -102,7 +116,16 @@ fn some_zero(a: i8, b: i8, c: i8, d: i8) -> bool
 }
 
 // Four shots a < b < c < d: a circuit where no three are on a line. The signs of b and d are turned, so they are on the side of a where theirs differ from its.
-fn four(shots: &[i32], a: usize, b: usize, c: usize, d: usize, plus: &mut [u16], minus: &mut [u16], next: usize) -> usize
+fn four(
+    shots: &[i32],
+    a: usize,
+    b: usize,
+    c: usize,
+    d: usize,
+    plus: &mut [u16],
+    minus: &mut [u16],
+    next: usize,
+) -> usize
     requires { ⌜ (a < b) × (b < c) × (c < d) × (d < countOf (now shots)) × Near (now shots) × (countOf (now shots) ≤ shotsMost) × Fits (filled (now plus) (now minus) next) (length (four (now shots) a b c d)) ⌝ }
     ensures { λ r. ⌜ filled (now (plus .exit)) (now (minus .exit)) r ≡ pour (filled (now (plus .entry)) (now (minus .entry)) next) (four (now (shots .entry)) a b c d) ⌝ }
 {
@@ -118,7 +141,15 @@ fn four(shots: &[i32], a: usize, b: usize, c: usize, d: usize, plus: &mut [u16],
 }
 
 // The fours with a, b and c as their smallest shots.
-fn fours_upon(shots: &[i32], a: usize, b: usize, c: usize, plus: &mut [u16], minus: &mut [u16], next: usize) -> usize
+fn fours_upon(
+    shots: &[i32],
+    a: usize,
+    b: usize,
+    c: usize,
+    plus: &mut [u16],
+    minus: &mut [u16],
+    next: usize,
+) -> usize
     requires { ⌜ (a < b) × (b < c) × (c < countOf (now shots)) × Near (now shots) × (countOf (now shots) ≤ shotsMost) × Fits (filled (now plus) (now minus) next) (length (foursUpon (now shots) a b c)) ⌝ }
     ensures { λ r. ⌜ filled (now (plus .exit)) (now (minus .exit)) r ≡ pour (filled (now (plus .entry)) (now (minus .entry)) next) (foursUpon (now (shots .entry)) a b c) ⌝ }
 {
@@ -133,7 +164,14 @@ fn fours_upon(shots: &[i32], a: usize, b: usize, c: usize, plus: &mut [u16], min
 }
 
 // The fours with a and b as their smallest shots.
-fn fours_with(shots: &[i32], a: usize, b: usize, plus: &mut [u16], minus: &mut [u16], next: usize) -> usize
+fn fours_with(
+    shots: &[i32],
+    a: usize,
+    b: usize,
+    plus: &mut [u16],
+    minus: &mut [u16],
+    next: usize,
+) -> usize
     requires { ⌜ (a < b) × (b < countOf (now shots)) × Near (now shots) × (countOf (now shots) ≤ shotsMost) × Fits (filled (now plus) (now minus) next) (length (foursWith (now shots) a b)) ⌝ }
     ensures { λ r. ⌜ filled (now (plus .exit)) (now (minus .exit)) r ≡ pour (filled (now (plus .entry)) (now (minus .entry)) next) (foursWith (now (shots .entry)) a b) ⌝ }
 {

@@ -67,7 +67,7 @@ returns-2 c =
     let bent = sym (tested (e .before)) ∙ e .if1 .left in
     p .put .ensures
     ∙ ap (put (lent (q .before .before .before .before .before .before)))
-      (t .of-four .ensures ∙ four-sides _ _ _ _ _ bent (q .before .before .before .sign .ensures) (q .before .before .sign2 .ensures) (q .before .sign3 .ensures) (q .sign4 .ensures))
+    (t .of-four .ensures ∙ four-sides _ _ _ _ _ bent (q .before .before .before .sign .ensures) (q .before .before .sign2 .ensures) (q .before .sign3 .ensures) (q .sign4 .ensures))
     ∙ four-bent _ _ _ _ _ _ bent
 
 pub four-spec : {M : Type 1} → statement M
