@@ -2,9 +2,9 @@
 --
 --   ℤ-steps               induction by successor and predecessor
 --   +ℤ-left-comm, +ℤ-swap, *ℤ-assoc, *ℤ-left-comm, *ℤ-add-l, *ℤ-add-r, *ℤ-neg-l, *ℤ-neg-r, one-*ℤ
-use mathlib.Core.Path.{_≡_, refl, sym, _∙_, ap}
-use Prim.Native.Nat.{ℕ, zero, suc, _+_, _*_}
-use lib.IntN.{ℤ, pos, negsuc, negℤ, _+ℤ_, _-ℤ_, _*ℤ_, sucℤ, predℤ, one, +ℤ-assoc, +ℤ-comm, +ℤ-idl, +ℤ-idr, +ℤ-invr, +ℤ-invl, *ℤ-comm, *ℤ-one, zero-*ℤ, *ℤ-zero, sucℤ-*ℤ, predℤ-*ℤ, negℤ-+ℤ, negℤ-negℤ, +ℤ-sucℤ, +ℤ-predℤ, negℤ-sucℤ, negℤ-predℤ}
+use mathlib.Core.Path.{_≡_, sym, _∙_, ap}
+use Prim.Native.Nat.{zero, suc}
+use lib.IntN.{ℤ, pos, negsuc, negℤ, _+ℤ_, _*ℤ_, sucℤ, predℤ, one, +ℤ-assoc, +ℤ-comm, +ℤ-idr, *ℤ-comm, *ℤ-one, zero-*ℤ, sucℤ-*ℤ, predℤ-*ℤ, negℤ-+ℤ, negℤ-negℤ, +ℤ-sucℤ, +ℤ-predℤ, negℤ-sucℤ, negℤ-predℤ}
 
 -- induction by successor and predecessor
 pub ℤ-steps : (P : ℤ → Type 0) → P (pos zero) → ((k : ℤ) → P k → P (sucℤ k)) → ((k : ℤ) → P k → P (predℤ k)) → (k : ℤ) → P k

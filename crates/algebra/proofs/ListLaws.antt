@@ -3,7 +3,7 @@
 --   getD-mem, mem-getD    what stands at a place is in the list, and what is in the list stands at a place
 --   Apart R xs            an earlier and a later member of xs are always related by R
 --   apart-append, apart-at    joined lists; the members at two places
-use mathlib.Core.Path.{_≡_, refl, sym, _∙_, ap, subst}
+use mathlib.Core.Path.{_≡_, refl, sym}
 use mathlib.Core.Logic.{_⊎_, inl, inr, ⊎-elim}
 use mathlib.Core.List.{List, [], _∷_, _++_, List·Memᴰ, List·Memᴰ·head, List·Memᴰ·tail, List·Memᴰ·cases-cons, List·Memᴰ·append-cases, List·Memᴰ·not-nil}
 use Prim.Native.Nat.{ℕ, zero, suc, _<_}

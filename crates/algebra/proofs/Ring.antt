@@ -7,13 +7,13 @@
 --   same a b    the difference of a and b has no coefficient left
 --
 -- Main theorem: `ring`. An identity modulo a hypothesis is `ring ..` followed by `ap` of the hypothesis.
-use mathlib.Core.Path.{_≡_, refl, sym, _∙_, ap, subst}
+use mathlib.Core.Path.{_≡_, refl, sym, _∙_, ap}
 use mathlib.Core.Bool.{Bool, true, false, _&&_}
 use mathlib.Core.List.{List, [], _∷_}
 use Prim.Native.Nat.{ℕ, zero, suc, compare, Ordering, Ordering·lt, Ordering·eq, Ordering·gt}
 use lib.Dec.{T, leb, eqb→eq, isEq}
-use lib.IntN.{ℤ, pos, negsuc, negℤ, _+ℤ_, _-ℤ_, _*ℤ_, +ℤ-assoc, +ℤ-comm, +ℤ-idl, +ℤ-idr, +ℤ-invr, +ℤ-invl, *ℤ-comm, zero-*ℤ, *ℤ-zero, -ℤ-+ℤ-cancel}
-use Rattle.algebra.proofs.IntLaws.{+ℤ-left-comm, +ℤ-swap, *ℤ-add-l, *ℤ-add-r, *ℤ-assoc, *ℤ-left-comm, *ℤ-neg-l, *ℤ-neg-r, one-*ℤ}
+use lib.IntN.{ℤ, pos, negsuc, negℤ, _+ℤ_, _-ℤ_, _*ℤ_, +ℤ-assoc, +ℤ-idl, +ℤ-idr, *ℤ-comm, zero-*ℤ, *ℤ-zero, -ℤ-+ℤ-cancel}
+use Rattle.algebra.proofs.IntLaws.{+ℤ-left-comm, +ℤ-swap, *ℤ-add-l, *ℤ-add-r, *ℤ-assoc, *ℤ-left-comm, *ℤ-neg-l, one-*ℤ}
 
 infixl 6 _⊕_ _⊝_
 infixl 7 _⊗_

@@ -10,7 +10,7 @@
 --   over f a b     f a ++ f (a + 1) ++ .. ++ f (b - 1)
 --
 -- Laws: proofs/LoopLaws (what a loop wants where it begins, goes on and ends), proofs/PicksLaws (place and rank are inverse), proofs/OverLaws.
-use mathlib.Core.Bool.{Bool, true, false, cond, _||_}
+use mathlib.Core.Bool.{Bool, false, cond, _||_}
 use mathlib.Core.List.{List, [], _∷_, _++_}
 use Prim.Native.Nat.{ℕ, zero, suc, _+_, _-_}
 use lib.Dec.{ltb}

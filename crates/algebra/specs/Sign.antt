@@ -11,7 +11,7 @@
 --   isMinus, isNought, isPlus, sameSign, eqZ    the same as tests
 --
 -- Laws: proofs/SignLaws.
-use mathlib.Core.Path.{_≡_, refl}
+use mathlib.Core.Path.{_≡_}
 use mathlib.Core.Bool.{Bool, true, false}
 use Prim.Native.Nat.{ℕ, zero, suc}
 use lib.Dec.{eqb}

@@ -7,17 +7,17 @@
 -- The published side is matroid's `Circuit`, which knows no determinant. Source 001, section 2; document 01, "Circuits".
 use mathlib.Core.Path.{_≡_, refl, sym, _∙_, ap, subst}
 use mathlib.Core.Logic.{_⊎_, inl, inr, ⊎-elim}
-use mathlib.Core.Bool.{Bool, true, false, _||_}
+use mathlib.Core.Bool.{true, false}
 use mathlib.Core.List.{List, [], _∷_}
 use Prim.Native.Nat.{ℕ, _<_}
 use native.Mathlib.Omega.{arith}
 use native.Mathlib.Decide.{ℕ-discrete}
-use lib.ListN.{length, getD}
-use lib.IntN.{ℤ, pos, negℤ}
+use lib.ListN.{length}
+use lib.IntN.{ℤ, pos}
 use Rattle.algebra.specs.Sign.{Sign, minus, nought, plus, signOf, opposite, isMinus, isNought, Pos, Neg, NZ}
-use Rattle.algebra.proofs.SignLaws.{signOf-pos, signOf-neg, signOf-zero, zero-signOf, signOf-opposite, opposite-opposite, nought-opposite, opposite-nought, pos-signOf}
+use Rattle.algebra.proofs.SignLaws.{signOf-pos, signOf-neg, signOf-zero, zero-signOf, signOf-opposite, opposite-opposite, nought-opposite, opposite-nought}
 use Rattle.algebra.proofs.ListLaws.{getD-mem, mem-getD}
-use Rattle.matroid.specs.Points.{Point, Configuration, turn, dot, Distinct}
+use Rattle.matroid.specs.Points.{Point, Configuration, turn, dot}
 use Rattle.matroid.specs.Circuits as published
 use Rattle.matroid.specs.Circuits.{SignVector, Alike, against}
 use Rattle.matroid.proofs.Turns.{dot-pos}
@@ -27,7 +27,7 @@ use Rattle.matroid.proofs.Lines.{middle-of-three}
 use Rattle.shots.specs.Coordinates.{countOf, pointOf, areaOf, orientOf, betweenOf}
 use Rattle.shots.specs.Tests.{refusalOf}
 use Rattle.shots.proofs.Patch.{patch-distinct, patch-differ}
-use Rattle.circuits.specs.Sides.{Circuit, Term, split, signIn}
+use Rattle.circuits.specs.Sides.{Circuit, split, signIn}
 use Rattle.circuits.specs.Numbered.{endSign, terms3, terms4, circuitsOf}
 use Rattle.circuits.specs.Calls.{circuitAt}
 use Rattle.circuits.proofs.SideLaws.{signOn, relative, match-at}

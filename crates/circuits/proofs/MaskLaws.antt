@@ -8,13 +8,13 @@
 use mathlib.Core.Path.{_≡_, refl, sym, _∙_, ap}
 use mathlib.Core.Bool.{Bool, true, false, cond, not, true≢false}
 use mathlib.Core.List.{List, [], _∷_}
-use Prim.Native.Nat.{ℕ, suc, _+_, _^_, _<_, _≤_}
+use Prim.Native.Nat.{ℕ, suc, _+_, _^_, _<_}
 use native.Mathlib.Omega.{arith}
 use lib.Pow.{pow-pos, pow-mono}
 use Rattle.algebra.specs.Sign.{Sign, minus, nought, plus, opposite, isNought, sameSign}
 use Rattle.circuits.specs.declared.Sides.{Sides}
 use Rattle.circuits.specs.Sizes.{maskBits}
-use Rattle.circuits.specs.Sides.{Circuit, Term, side, split, maskOf, masks, begun, joined, sides3, Below}
+use Rattle.circuits.specs.Sides.{Term, side, split, maskOf, masks, begun, joined, sides3, Below}
 
 pub bit-room : (x i : ℕ) → i < maskBits → x < 2 ^ i → x + 2 ^ i < 2 ^ maskBits
 bit-room x i h k = omega (arith, pow-mono {i = suc i} {j = maskBits} h)

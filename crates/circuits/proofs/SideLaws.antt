@@ -8,17 +8,17 @@
 --   match-at         a sign known so is the sign of shot i among the terms
 --   sign-of-split    the sign of a shot in a split list of terms is its sign against that of the first
 --   mask-below       a side of shots below n has a mask below 2 ^ n
-use mathlib.Core.Path.{_≡_, refl, sym, _∙_, ap, subst}
+use mathlib.Core.Path.{_≡_, refl, sym, _∙_, ap}
 use mathlib.Core.Bool.{Bool, true, false, cond, _||_, true≢false}
 use mathlib.Core.List.{List, [], _∷_}
-use Prim.Native.Nat.{ℕ, zero, suc, _+_, _^_, _<_, _≤_}
+use Prim.Native.Nat.{ℕ, suc, _+_, _^_, _<_, _≤_}
 use native.Mathlib.Omega.{arith}
 use native.Mathlib.Decide.{ℕ-discrete}
 use lib.Dec.{eqb}
-use lib.Pow.{pow-pos, pow-mono}
+use lib.Pow.{pow-mono}
 use borrow.Author.Tests.{eq-eqb, ne-eqb}
 use Rattle.algebra.specs.Sign.{Sign, minus, nought, plus, opposite, isNought, sameSign}
-use Rattle.circuits.specs.Sides.{Circuit, Term, side, split, maskOf, isOn, signIn}
+use Rattle.circuits.specs.Sides.{Term, side, split, maskOf, isOn, signIn}
 use Rattle.circuits.proofs.MaskLaws.{turned-signed}
 
 abbrev pub signOn : List Term → ℕ → Sign

@@ -6,28 +6,26 @@
 --   holds, lacks        a circuit has its terms' shots and no other
 --   Differ n z z′       some shot below n is in one of the two and not in the other
 --   numbers-differ      circuits with different numbers differ
-use mathlib.Core.Path.{_≡_, refl, sym, _∙_, ap, subst}
-use mathlib.Core.Logic.{_⊎_, inl, inr, ⊎-elim}
+use mathlib.Core.Path.{_≡_, refl, sym, _∙_, ap}
+use mathlib.Core.Logic.{_⊎_, inl, inr}
 use mathlib.Core.Bool.{Bool, true, false, cond, true≢false}
-use mathlib.Core.List.{List, [], _∷_, _++_, List·Memᴰ, List·Memᴰ·not-nil}
-use Prim.Native.Nat.{ℕ, zero, suc, _+_, _^_, _<_, _≤_}
+use mathlib.Core.List.{List, [], _∷_, List·Memᴰ, List·Memᴰ·not-nil}
+use Prim.Native.Nat.{ℕ, _+_, _^_, _<_, _≤_}
 use native.Mathlib.Omega.{arith}
 use native.Mathlib.Decide.{ℕ-discrete, decLt}
-use lib.Dec.{eqb}
 use lib.ListN.{length, getD}
 use lib.IntN.{ℤ}
 use borrow.Author.Tests.{eq-eqb, ne-eqb}
-use Rattle.algebra.specs.Loops.{over}
-use Rattle.algebra.specs.Sign.{Sign, minus, nought, plus, opposite, isNought}
+use Rattle.algebra.specs.Sign.{minus, nought, plus, opposite, isNought}
 use Rattle.algebra.proofs.SignLaws.{plus-minus, minus-nought}
 use Rattle.algebra.proofs.ListLaws.{Apart, apart-append, apart-at}
 use Rattle.algebra.proofs.OverLaws.{over-apart}
 use Rattle.shots.specs.Coordinates.{countOf, orientOf}
-use Rattle.circuits.specs.Sides.{Circuit, Term, side, split, maskOf, signIn}
+use Rattle.circuits.specs.Sides.{Circuit, Term, split, maskOf, signIn}
 use Rattle.circuits.specs.Numbered.{terms3, terms4, someFlat, three, threesWith, threesFrom, threes, four, foursUpon, foursWith, foursFrom, fours, circuitsOf}
 use Rattle.circuits.proofs.MaskLaws.{Signed}
-use Rattle.circuits.proofs.SideLaws.{signOn, relative, Rising, Lower, Off, sign-of-split, relative-nought, nought-relative, relative-self, mask-below, early-off, off-nought}
-use Rattle.circuits.proofs.Sources.{Three, Four, Source, from3, from4, OnLine, NoneOnLine, three-out, four-out, threesWith-out, threesFrom-out, foursUpon-out, foursWith-out, foursFrom-out, Threes, Fours, threes-out, fours-out, Made, made}
+use Rattle.circuits.proofs.SideLaws.{signOn, relative, Off, sign-of-split, relative-nought, nought-relative, relative-self, mask-below, early-off, off-nought}
+use Rattle.circuits.proofs.Sources.{Three, Four, from3, from4, OnLine, NoneOnLine, three-out, four-out, threesWith-out, threesFrom-out, foursUpon-out, foursWith-out, foursFrom-out, Threes, Fours, threes-out, fours-out, Made, made}
 
 -- ---- one circuit
 

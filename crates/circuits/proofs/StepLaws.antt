@@ -4,7 +4,7 @@
 --   four-flat, four-bent, four-sides       four shots
 --   signs-same                             two signs in machine form are equal where the signs are
 use mathlib.Core.Path.{_≡_, refl, sym, _∙_, ap}
-use mathlib.Core.Bool.{Bool, true, false, cond, not, _||_, Bool·beq}
+use mathlib.Core.Bool.{Bool, true, false, not, _||_, Bool·beq}
 use mathlib.Core.List.{List, [], _∷_}
 use Prim.Native.Nat.{ℕ}
 use lib.Dec.{eqb}
@@ -14,7 +14,7 @@ use mir.Syntax.{w8}
 use mir.Val.{ofZ}
 use Rattle.algebra.specs.Sign.{Sign, minus, nought, plus, opposite, value, isNought, sameSign, eqZ}
 use Rattle.shots.specs.Coordinates.{orientOf, betweenOf}
-use Rattle.circuits.specs.Sides.{Circuit, split, masks, begun, joined, sides3, sides4}
+use Rattle.circuits.specs.Sides.{Circuit, split, masks, sides3, sides4}
 use Rattle.circuits.specs.Numbered.{endSign, terms3, terms4, someFlat, three, four}
 use Rattle.circuits.specs.Filled.{Filled, put, pour, Fits}
 use Rattle.circuits.proofs.MaskLaws.{masks-split, turned-other, turned-signed}

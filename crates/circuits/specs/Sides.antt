@@ -13,7 +13,7 @@
 --   signIn z i      the sign of shot i in the circuit: plus on its plus side, minus on its minus side, else nought
 --
 -- Source: document 01, "Circuits".
-use mathlib.Core.Bool.{Bool, true, false, cond, _||_}
+use mathlib.Core.Bool.{Bool, false, cond, _||_}
 use mathlib.Core.List.{List, [], _∷_}
 use Prim.Native.Nat.{ℕ, _+_, _^_, _<_}
 use lib.Dec.{eqb}

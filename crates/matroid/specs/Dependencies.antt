@@ -10,7 +10,7 @@ use Prim.Native.Nat.{ℕ, _<_}
 use lib.IntN.{ℤ, pos, _*ℤ_}
 use Rattle.algebra.specs.Sign.{Pos, Neg, NZ}
 use Rattle.algebra.specs.Sum.{sum}
-use Rattle.matroid.specs.Points.{Point, Configuration}
+use Rattle.matroid.specs.Points.{Configuration}
 
 pub record Dependency (n : ℕ) (P : Configuration) (f : ℕ → ℤ) : Type 0 where
   pub ones : sum n f ≡ pos 0

@@ -9,7 +9,7 @@
 --   borderCallOf l       the number of border pairs; or 1-4
 --
 -- Source: document 01, "Shots and orientation".
-use mathlib.Core.Bool.{Bool, true, false, cond, _||_}
+use mathlib.Core.Bool.{cond, _||_}
 use mathlib.Core.List.{List, [], _∷_, _++_}
 use Prim.Native.Nat.{ℕ}
 use lib.Dec.{leb, ltb}

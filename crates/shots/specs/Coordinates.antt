@@ -9,13 +9,13 @@
 --   borderOf l i j     the cocircuit of the pair has no two opposite signs
 --
 -- Theorems: proofs/Orientations. Source: document 01, "Shots and orientation"; source 001, section 3.1.
-use mathlib.Core.Bool.{Bool, true, false, not, _&&_}
+use mathlib.Core.Bool.{Bool, not, _&&_}
 use mathlib.Core.List.{List}
 use Prim.Native.Nat.{ℕ, _+_, _*_, _/_}
 use lib.ListN.{getD, length}
 use lib.IntN.{ℤ, pos}
 use Rattle.algebra.specs.Loops.{any}
-use Rattle.algebra.specs.Sign.{Sign, minus, nought, plus, signOf, isMinus, isPlus}
+use Rattle.algebra.specs.Sign.{Sign, signOf, isMinus, isPlus}
 use Rattle.matroid.specs.Points.{Point, turn, dot}
 
 abbrev pub countOf : List ℤ → ℕ

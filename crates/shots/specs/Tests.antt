@@ -9,8 +9,7 @@
 --   Near l         every coordinate is within its range
 --
 -- Source: document 01, "Refusal numbers".
-use mathlib.Core.Path.{_≡_}
-use mathlib.Core.Bool.{Bool, true, false, not, _||_, _&&_}
+use mathlib.Core.Bool.{Bool, not, _||_, _&&_}
 use mathlib.Core.List.{List, [], _∷_}
 use Prim.Native.Nat.{ℕ, _%_, _≤_}
 use lib.Dec.{ltb, eqb}

@@ -6,18 +6,16 @@ use native.Mathlib.Omega.{arith}
 use borrow.Author.Needs.{needs}
 use borrow.Author.Tests.{le-leb, lt-leb}
 use lib.Dec.{leb}
-use lib.ListN.{length, getD}
+use lib.ListN.{length}
 use lib.IntN.{ℤ}
 use mir.Syntax.{w64}
 use mir.Val.{Fits}
 use Rattle.shots.specs.Tests.{refusalOf}
 use Rattle.shots.proofs.Patch.{patch-near, patch-few}
 use Rattle.shots.proofs.Chains.{shots-refused, rule-broken, rule-kept}
-use Rattle.circuits.specs.declared.Sides.{Sides}
 use Rattle.circuits.specs.Sizes.{circuitsMost}
-use Rattle.circuits.specs.Sides.{maskOf}
 use Rattle.circuits.specs.Numbered.{circuitsOf}
-use Rattle.circuits.specs.Calls.{circuitAt, circuitRule, circuitCallOf}
+use Rattle.circuits.specs.Calls.{circuitRule, circuitCallOf}
 use Rattle.circuits.proofs.FilledLaws.{poured-count, poured-at}
 use Rattle.circuits.proofs.Bounds.{circuits-most}
 use Rattle.circuits.proofs.circuit.Statement.{statement}

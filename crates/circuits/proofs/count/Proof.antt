@@ -1,5 +1,5 @@
 -- `circuits::count` meets its contract: the chain stops at the run, or gives how many circuits were written.
-use mathlib.Core.Path.{_≡_, sym, _∙_, ap}
+use mathlib.Core.Path.{sym, _∙_, ap}
 use mathlib.Core.List.{[]}
 use native.Mathlib.Omega.{arith}
 use borrow.Author.Needs.{needs}

@@ -1,10 +1,8 @@
 -- `circuits::core::all` meets its contract: the threes, then the fours behind them.
-use mathlib.Core.Path.{_≡_, refl, sym, _∙_, ap, subst}
-use mathlib.Core.List.{List}
-use Prim.Native.Nat.{ℕ, _+_, _≤_}
+use mathlib.Core.Path.{refl, sym, _∙_, ap, subst}
+use Prim.Native.Nat.{_+_}
 use native.Mathlib.Omega.{arith}
 use lib.ListN.{length}
-use lib.IntN.{ℤ}
 use borrow.Author.Needs.{needs}
 use Rattle.circuits.specs.Filled.{Filled, filled, pour, Fits}
 use Rattle.circuits.specs.Numbered.{threes, fours, circuitsOf}

@@ -1,6 +1,5 @@
 -- `circuits::core::four` meets its contract.
 use mathlib.Core.Path.{_≡_, sym, _∙_, ap}
-use mathlib.Core.Bool.{true, false}
 use borrow.Author.Needs.{needs}
 use mir.Syntax.{w8}
 use Rattle.algebra.proofs.SizeLaws.{read-back}

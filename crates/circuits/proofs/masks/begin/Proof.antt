@@ -1,8 +1,5 @@
 -- `circuits::masks::begin` meets its contract.
-use mathlib.Core.Path.{_≡_, refl, ap}
-use Prim.Native.Nat.{ℕ}
 use borrow.Author.Needs.{needs}
-use Rattle.circuits.specs.declared.Sides.{Sides}
 use Rattle.circuits.proofs.masks.begin.Statement.{statement}
 use Rattle.circuits.proofs.masks.begin.Tie as tie
 

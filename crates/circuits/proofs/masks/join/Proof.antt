@@ -1,5 +1,5 @@
 -- `circuits::masks::join` meets its contract: a side below bit i has room for it.
-use mathlib.Core.Path.{_≡_, refl, ap, subst, sym}
+use mathlib.Core.Path.{_≡_}
 use Prim.Native.Nat.{ℕ, _+_, _^_, _<_}
 use borrow.Author.Needs.{needs}
 use mir.Syntax.{w16}

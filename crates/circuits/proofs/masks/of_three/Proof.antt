@@ -1,9 +1,6 @@
 -- `circuits::masks::of_three` meets its contract.
-use mathlib.Core.Path.{_≡_, _∙_, ap, subst, sym}
-use Prim.Native.Nat.{ℕ}
 use borrow.Author.Needs.{needs}
-use Rattle.circuits.specs.declared.Sides.{Sides}
-use Rattle.circuits.specs.Sides.{begun, joined, Below}
+use Rattle.circuits.specs.Sides.{begun}
 use Rattle.circuits.proofs.MaskLaws.{below-begun, below-joined}
 use Rattle.circuits.proofs.masks.of_three.Statement.{statement}
 use Rattle.circuits.proofs.masks.of_three.Tie as tie
