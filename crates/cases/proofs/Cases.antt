@@ -4,7 +4,8 @@ use mathlib.Core.List.{map}
 use Rattle.algebra.specs.Answer.{chain}
 use Rattle.algebra.specs.Loops.{any, tally, tabulate, run, over}
 use Rattle.algebra.specs.Sign.{signOf, opposite, value}
-use Rattle.shots.specs.Coordinates.{xOf, yOf, areaOf, orientOf, betweenOf}
+use Rattle.shots.specs.Coordinates.{xOf, yOf, areaOf}
+use Rattle.shots.specs.Patch.{orientOf, betweenOf}
 use Rattle.shots.specs.Tests.{badCount, farAt, someFar, sameAt, sameBefore, someSame, bentAt, bentOf, bentBefore, someBent}
 use Rattle.shots.specs.Calls.{orientationOf, signAt, cocircuitOf}
 use Rattle.circuits.specs.Sides.{side, split, maskOf}

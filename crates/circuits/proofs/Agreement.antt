@@ -24,7 +24,8 @@ use Rattle.matroid.proofs.Turns.{dot-pos}
 use Rattle.matroid.proofs.Elementary.{weights3, weights4, Elementary, e3, e4, weights3-off, weights3-a, weights3-b, weights3-c, weights4-off, weights4-a, weights4-b, weights4-c, weights4-d, elementary-circuit}
 use Rattle.matroid.proofs.Conforming.{circuit-alike, circuit-against, circuit-elementary}
 use Rattle.matroid.proofs.Lines.{middle-of-three}
-use Rattle.shots.specs.Coordinates.{countOf, pointOf, areaOf, orientOf, betweenOf}
+use Rattle.shots.specs.Coordinates.{pointOf, areaOf}
+use Rattle.shots.specs.Patch.{countOf, orientOf, betweenOf}
 use Rattle.shots.specs.Tests.{refusalOf}
 use Rattle.shots.proofs.Patch.{patch-distinct, patch-differ}
 use Rattle.circuits.specs.Sides.{Circuit, split, signIn}

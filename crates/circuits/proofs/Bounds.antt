@@ -19,7 +19,7 @@ use Rattle.algebra.specs.Sign.{isNought}
 use Rattle.algebra.proofs.LoopLaws.{any-no}
 use Rattle.algebra.proofs.OverLaws.{over-length}
 use Rattle.shots.specs.Sizes.{shotsMost}
-use Rattle.shots.specs.Coordinates.{countOf, orientOf}
+use Rattle.shots.specs.Patch.{countOf, orientOf}
 use Rattle.circuits.specs.Sizes.{circuitsMost, threesOf, foursOf, candidates}
 use Rattle.circuits.specs.Sides.{Circuit, split}
 use Rattle.circuits.specs.Filled.{Filled, Fits}

@@ -18,7 +18,7 @@ use Rattle.algebra.specs.Answer.{Answer, gives, refuses, First, Clear, Decides}
 use Rattle.algebra.specs.Sign.{minus, plus}
 use Rattle.algebra.proofs.AnswerLaws.{chain-refuses, chain-gives, one-answer, decides-append, reflects-leb}
 use Rattle.algebra.proofs.ListLaws.{getD-mem}
-use Rattle.shots.specs.Coordinates.{countOf}
+use Rattle.shots.specs.Patch.{countOf}
 use Rattle.shots.specs.Tests.{shotRules}
 use Rattle.shots.specs.Lines.{shotLines}
 use Rattle.shots.proofs.Promises.{shots-decided}

@@ -20,7 +20,7 @@ use Rattle.algebra.specs.Sign.{minus, nought, plus, opposite, isNought}
 use Rattle.algebra.proofs.SignLaws.{plus-minus, minus-nought}
 use Rattle.algebra.proofs.ListLaws.{Apart, apart-append, apart-at}
 use Rattle.algebra.proofs.OverLaws.{over-apart}
-use Rattle.shots.specs.Coordinates.{countOf, orientOf}
+use Rattle.shots.specs.Patch.{countOf, orientOf}
 use Rattle.circuits.specs.Sides.{Circuit, Term, split, maskOf, signIn}
 use Rattle.circuits.specs.Numbered.{terms3, terms4, someFlat, three, threesWith, threesFrom, threes, four, foursUpon, foursWith, foursFrom, fours, circuitsOf}
 use Rattle.circuits.proofs.MaskLaws.{Signed}

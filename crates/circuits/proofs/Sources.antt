@@ -13,7 +13,7 @@ use native.Mathlib.Omega.{arith}
 use lib.IntN.{ℤ}
 use Rattle.algebra.specs.Sign.{opposite, isNought}
 use Rattle.algebra.proofs.OverLaws.{over-in, over-out}
-use Rattle.shots.specs.Coordinates.{countOf, orientOf, betweenOf}
+use Rattle.shots.specs.Patch.{countOf, orientOf, betweenOf}
 use Rattle.circuits.specs.Sides.{Circuit, Term, split}
 use Rattle.circuits.specs.Numbered.{endSign, terms3, terms4, someFlat, three, threesWith, threesFrom, threes, four, foursUpon, foursWith, foursFrom, fours, circuitsOf}
 use Rattle.circuits.proofs.MaskLaws.{Signed, turned-signed}

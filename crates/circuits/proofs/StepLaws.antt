@@ -13,7 +13,7 @@ use lib.IntN.{ℤ, pos}
 use mir.Syntax.{w8}
 use mir.Val.{ofZ}
 use Rattle.algebra.specs.Sign.{Sign, minus, nought, plus, opposite, value, isNought, sameSign, eqZ}
-use Rattle.shots.specs.Coordinates.{orientOf, betweenOf}
+use Rattle.shots.specs.Patch.{orientOf, betweenOf}
 use Rattle.circuits.specs.Sides.{Circuit, split, masks, sides3, sides4}
 use Rattle.circuits.specs.Numbered.{endSign, terms3, terms4, someFlat, three, four}
 use Rattle.circuits.specs.Filled.{Filled, put, pour, Fits}

@@ -12,7 +12,7 @@ use Prim.Native.Nat.{ℕ, _+_}
 use lib.IntN.{ℤ}
 use Rattle.algebra.specs.Loops.{over}
 use Rattle.algebra.specs.Sign.{Sign, minus, plus, opposite, isNought}
-use Rattle.shots.specs.Coordinates.{countOf, orientOf, betweenOf}
+use Rattle.shots.specs.Patch.{countOf, orientOf, betweenOf}
 use Rattle.circuits.specs.Sides.{Circuit, Term, split}
 
 -- an end is plus, the middle one minus

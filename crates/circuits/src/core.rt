@@ -6,7 +6,7 @@ ghost use lib.ListN.{length};
 ghost use lib.IntN.{pos};
 ghost use Rattle.algebra.specs.Sign.{eqZ};
 ghost use Rattle.shots.specs.Sizes.{shotsMost};
-ghost use Rattle.shots.specs.Coordinates.{countOf};
+ghost use Rattle.shots.specs.Patch.{countOf};
 ghost use Rattle.shots.specs.Tests.{Near};
 ghost use Rattle.circuits.specs.Sizes.{circuitsMost};
 ghost use Rattle.circuits.specs.Numbered.{three, threesWith, threesFrom, threes, four, foursUpon, foursWith, foursFrom, fours, circuitsOf};

@@ -8,7 +8,7 @@ ghost use mathlib.Core.Path.{_≡_};
 ghost use Rattle.circuits.specs.Calls.{readCounted, readSplit, countCallOf, circuitCallOf};
 
 pub mod core;
-pub mod masks;
+mod masks;
 
 // A patch has at most this many circuits: the sets of three and of four of its shots.
 pub const CIRCUITS_MOST: usize = 330;

@@ -1,7 +1,5 @@
 -- Points on a line.
 --
---   Between m p q     m strictly between p and q: positive weights u and v at p and q that balance at m
---
 -- Main theorems: `collinear-iff` (one line holds the points exactly when no three turn), `middle-of-three`, `between-iff`.
 use mathlib.Core.Path.{_≡_, refl, sym, _∙_, ap, ap₂}
 use mathlib.Core.Logic.{_⊎_, inl, inr, _↔_}
@@ -13,17 +11,9 @@ use lib.IntN.{ℤ, pos, negℤ, _+ℤ_, _-ℤ_, _*ℤ_, +ℤ-invr}
 use Rattle.algebra.specs.Sign.{Pos, Neg, NZ, Tri, below, at-nought, above}
 use Rattle.algebra.proofs.Ring.{Ex, cst, var, _⊕_, _⊝_, _⊗_, neg, ring, sub-zero→eq}
 use Rattle.algebra.proofs.SignLaws.{tri, mul-zero, both-zero, pos-cast, pos-mul, pos-add, pos-zero, pos-of-mul, zero-of-mul, dec-nz, zero-if}
-use Rattle.matroid.specs.Points.{Point, Configuration, Collinear, turn, dot}
+use Rattle.matroid.specs.Points.{Point, Configuration, Between, Collinear, turn, dot}
 use Rattle.matroid.proofs.Turns.{coordinates, X, Y, D, O, turn-swap, turn-first, turn-last, turn-ends, turn-form, point-path, dot-base, dot-zero, dot-pos}
 use Rattle.matroid.proofs.Search.{Least, least}
-
-pub record Between (m p q : Point) : Type 0 where
-  pub u : ℤ
-  pub v : ℤ
-  pub u-pos : Pos u
-  pub v-pos : Pos v
-  pub xs : u *ℤ (p .x -ℤ m .x) +ℤ v *ℤ (q .x -ℤ m .x) ≡ pos 0
-  pub ys : u *ℤ (p .y -ℤ m .y) +ℤ v *ℤ (q .y -ℤ m .y) ≡ pos 0
 
 pub between-iff : (m p q : Point) → turn m p q ≡ pos 0 → (m ≡ q → ⊥) → Neg (dot m p q) ↔ Between m p q
 between-iff m p q e ne = (into, out)

@@ -6,16 +6,17 @@
 --   homogeneous p       1, x, y: the 1 is written first
 --   chirotope a b c     the sign of the determinant of three points
 --   turn a b c          the same determinant, as document 01 writes it
---   dot m a b           (a - m) · (b - m): negative where m lies strictly between a and b on their line
+--   Between m p q       m lies strictly between p and q: positive weights u at p and v at q balance at m
+--   dot m p q           (p - m) · (q - m), by which it is decided for three points on a line: negative where m is between the others
 --   Configuration       a point for each number; only the numbers below some n count
 --   Distinct n P        no two of the first n points are the same
 --   Collinear n P       one line holds the first n points
 --
--- Main theorems: proofs/Turns (`turn-is-det3`, alternating, 0 for repeated points), proofs/Lines.
+-- Main theorems: proofs/Turns (`turn-is-det3`, alternating, 0 for repeated points), proofs/Lines (`between-iff`, `middle-of-three`, `collinear-iff`).
 use mathlib.Core.Path.{_≡_}
 use Prim.Native.Nat.{ℕ, _<_}
 use lib.IntN.{ℤ, pos, _+ℤ_, _-ℤ_, _*ℤ_}
-use Rattle.algebra.specs.Sign.{Sign, signOf}
+use Rattle.algebra.specs.Sign.{Sign, signOf, Pos}
 
 pub record Point : Type 0 where
   pub x : ℤ
@@ -42,8 +43,16 @@ chirotope a b c = signOf (det3 (homogeneous a) (homogeneous b) (homogeneous c))
 abbrev pub turn : Point → Point → Point → ℤ
 turn a b c = (b .x -ℤ a .x) *ℤ (c .y -ℤ a .y) -ℤ (b .y -ℤ a .y) *ℤ (c .x -ℤ a .x)
 
+pub record Between (m p q : Point) : Type 0 where
+  pub u : ℤ
+  pub v : ℤ
+  pub u-pos : Pos u
+  pub v-pos : Pos v
+  pub xs : u *ℤ (p .x -ℤ m .x) +ℤ v *ℤ (q .x -ℤ m .x) ≡ pos 0
+  pub ys : u *ℤ (p .y -ℤ m .y) +ℤ v *ℤ (q .y -ℤ m .y) ≡ pos 0
+
 abbrev pub dot : Point → Point → Point → ℤ
-dot m a b = (a .x -ℤ m .x) *ℤ (b .x -ℤ m .x) +ℤ (a .y -ℤ m .y) *ℤ (b .y -ℤ m .y)
+dot m p q = (p .x -ℤ m .x) *ℤ (q .x -ℤ m .x) +ℤ (p .y -ℤ m .y) *ℤ (q .y -ℤ m .y)
 
 abbrev pub Configuration : Type 0
 Configuration = ℕ → Point

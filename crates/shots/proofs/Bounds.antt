@@ -12,7 +12,8 @@ use lib.IntN.{ℤ, pos, natAbs, _-ℤ_, _*ℤ_}
 use Rattle.algebra.proofs.LoopLaws.{tally-below}
 use Rattle.algebra.proofs.SizeLaws.{natAbs-sub, mul-size}
 use Rattle.shots.specs.Sizes.{reach}
-use Rattle.shots.specs.Coordinates.{xOf, yOf, areaOf, borderOf}
+use Rattle.shots.specs.Coordinates.{xOf, yOf, areaOf}
+use Rattle.shots.specs.Patch.{borderOf}
 use Rattle.shots.specs.Tests.{Near}
 use Rattle.shots.specs.Calls.{bordersOf}
 

@@ -19,7 +19,8 @@ use Rattle.algebra.proofs.SignLaws.{zero-if}
 use Rattle.matroid.specs.Points.{Point}
 use Rattle.matroid.proofs.Lines.{collinear-iff}
 use Rattle.shots.specs.Sizes.{shotsLeast, shotsMost, reach}
-use Rattle.shots.specs.Coordinates.{countOf, xOf, yOf, pointOf, areaOf, orientOf}
+use Rattle.shots.specs.Coordinates.{xOf, yOf, pointOf, areaOf}
+use Rattle.shots.specs.Patch.{countOf, orientOf}
 use Rattle.shots.specs.Tests.{badCount, farAt, someFar, sameAt, sameBefore, someSame, bentAt, bentOf, bentBefore, someBent}
 use Rattle.shots.specs.Lines.{BadCount, Beyond, Repeated, OneLine}
 

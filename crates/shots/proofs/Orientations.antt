@@ -16,10 +16,11 @@ use Rattle.algebra.specs.Sign.{Sign, minus, nought, plus, signOf, opposite, isM
 use Rattle.algebra.specs.Answer.{Reflects}
 use Rattle.algebra.proofs.AnswerLaws.{reflects-iff, reflects-yes, reflects-true, reflects-minus}
 use Rattle.algebra.proofs.SignLaws.{signOf-zero, zero-signOf, signOf-opposite}
-use Rattle.matroid.specs.Points.{chirotope, dot}
+use Rattle.matroid.specs.Points.{Between, chirotope, dot}
 use Rattle.matroid.proofs.Turns.{turn-is-det3, turn-cycle, turn-swap, turn-swap-first, turn-first, turn-last, turn-ends}
-use Rattle.matroid.proofs.Lines.{Between, between-iff}
-use Rattle.shots.specs.Coordinates.{countOf, pointOf, areaOf, orientOf, betweenOf, someLeft, someRight}
+use Rattle.matroid.proofs.Lines.{between-iff}
+use Rattle.shots.specs.Coordinates.{pointOf, areaOf}
+use Rattle.shots.specs.Patch.{countOf, orientOf, betweenOf, someLeft, someRight}
 use Rattle.shots.specs.Tests.{refusalOf}
 use Rattle.shots.proofs.Patch.{patch-differ}
 

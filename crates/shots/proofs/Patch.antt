@@ -18,7 +18,8 @@ use Rattle.algebra.proofs.AnswerLaws.{refusal-keeps, reflects-no}
 use Rattle.algebra.proofs.LoopLaws.{any-no}
 use Rattle.matroid.specs.Points.{Distinct, Collinear}
 use Rattle.shots.specs.Sizes.{shotsLeast, shotsMost, reach}
-use Rattle.shots.specs.Coordinates.{countOf, pointOf}
+use Rattle.shots.specs.Coordinates.{pointOf}
+use Rattle.shots.specs.Patch.{countOf}
 use Rattle.shots.specs.Tests.{badCount, farAt, someFar, someSame, someBent, refusalOf, Near}
 use Rattle.shots.specs.Lines.{BadCount}
 use Rattle.shots.proofs.Decided.{count-decided, same-decided, line-decided}

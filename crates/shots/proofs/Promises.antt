@@ -17,7 +17,8 @@ use Rattle.algebra.specs.Loops.{tabulate, tally}
 use Rattle.algebra.specs.Sign.{value}
 use Rattle.algebra.proofs.AnswerLaws.{chain-refuses, chain-gives, one-answer, decides-append, reflects-or, reflects-leb}
 use Rattle.shots.specs.Sizes.{shotsMost}
-use Rattle.shots.specs.Coordinates.{countOf, areaOf, orientOf}
+use Rattle.shots.specs.Coordinates.{areaOf}
+use Rattle.shots.specs.Patch.{countOf, orientOf}
 use Rattle.shots.specs.Tests.{shotRules}
 use Rattle.shots.specs.Lines.{NotShot, NotPair, shotLines, orientationLines, cocircuitLines}
 use Rattle.shots.specs.Calls.{readAccepted, readOriented, readMeasured, readCounted, Cocircuit, readSigns, acceptOf, shotsRule, orientationOf, doubleAreaOf, pairRule, signAt, signsWith, cocircuitOf, bordersOf, borderCallOf}

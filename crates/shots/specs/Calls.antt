@@ -19,7 +19,8 @@ use Rattle.algebra.specs.Answer.{Answer, gives, refuses, Rule, chain}
 use Rattle.algebra.specs.Loops.{tabulate, tally}
 use Rattle.algebra.specs.Sign.{value}
 use Rattle.shots.specs.Sizes.{shotsMost}
-use Rattle.shots.specs.Coordinates.{countOf, areaOf, orientOf, borderOf}
+use Rattle.shots.specs.Coordinates.{areaOf}
+use Rattle.shots.specs.Patch.{countOf, orientOf, borderOf}
 use Rattle.shots.specs.Tests.{shotRules}
 use Rattle.shots.specs.declared.Accepted.{Accepted}
 use Rattle.shots.specs.declared.Accepted.the-variants as A

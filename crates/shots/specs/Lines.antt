@@ -18,7 +18,8 @@ use lib.IntN.{ℤ, pos, natAbs}
 use Rattle.algebra.specs.Answer.{Line}
 use Rattle.matroid.specs.Points.{Collinear}
 use Rattle.shots.specs.Sizes.{shotsLeast, shotsMost, reach}
-use Rattle.shots.specs.Coordinates.{countOf, pointOf}
+use Rattle.shots.specs.Coordinates.{pointOf}
+use Rattle.shots.specs.Patch.{countOf}
 
 abbrev pub BadCount : List ℤ → Type 0
 BadCount l = (length l % 2 ≡ 1) ⊎ ((countOf l < shotsLeast) ⊎ (shotsMost < countOf l))

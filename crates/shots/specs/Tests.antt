@@ -19,7 +19,8 @@ use Rattle.algebra.specs.Answer.{Rule, refusal}
 use Rattle.algebra.specs.Loops.{any}
 use Rattle.algebra.specs.Sign.{eqZ, isNought}
 use Rattle.shots.specs.Sizes.{shotsLeast, shotsMost, reach}
-use Rattle.shots.specs.Coordinates.{countOf, xOf, yOf, orientOf}
+use Rattle.shots.specs.Coordinates.{xOf, yOf}
+use Rattle.shots.specs.Patch.{countOf, orientOf}
 
 unfoldable pub badCount : List ℤ → Bool
 badCount l = eqb (length l % 2) 1 || (ltb (countOf l) shotsLeast || ltb shotsMost (countOf l))

@@ -4,7 +4,7 @@ ghost use mathlib.Core.Bool.{cond};
 ghost use Prim.Native.Nat.{_≤_, _<_};
 ghost use Rattle.algebra.specs.Loops.{tabulate, tally};
 ghost use Rattle.shots.specs.Sizes.{shotsMost};
-ghost use Rattle.shots.specs.Coordinates.{countOf, someLeft, borderOf};
+ghost use Rattle.shots.specs.Patch.{countOf, someLeft, borderOf};
 ghost use Rattle.shots.specs.Tests.{Near};
 ghost use Rattle.shots.specs.Calls.{signAt, bordersOf};
 use super::SHOTS_MOST;

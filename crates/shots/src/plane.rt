@@ -5,7 +5,8 @@ ghost use lib.ListN.{length, getD};
 ghost use lib.IntN.{pos, natAbs, _-ℤ_, _*ℤ_};
 ghost use Rattle.algebra.specs.Sign.{value, signOf};
 ghost use Rattle.shots.specs.Sizes.{reach};
-ghost use Rattle.shots.specs.Coordinates.{countOf, areaOf, orientOf, betweenOf};
+ghost use Rattle.shots.specs.Coordinates.{areaOf};
+ghost use Rattle.shots.specs.Patch.{countOf, orientOf, betweenOf};
 ghost use Rattle.shots.specs.Tests.{Near};
 
 fn wide(x: i32) -> i64

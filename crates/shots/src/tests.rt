@@ -7,7 +7,7 @@ ghost use lib.ListN.{length, getD};
 ghost use lib.IntN.{pos, natAbs};
 ghost use Rattle.algebra.specs.Sign.{eqZ};
 ghost use Rattle.shots.specs.Sizes.{reach};
-ghost use Rattle.shots.specs.Coordinates.{countOf};
+ghost use Rattle.shots.specs.Patch.{countOf};
 ghost use Rattle.shots.specs.Tests.{Near, badCount, someFar, sameAt, sameBefore, someSame, bentAt, bentOf, bentBefore, someBent, refusalOf};
 use super::HIGHEST;
 use super::LOWEST;

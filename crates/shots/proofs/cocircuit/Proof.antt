@@ -7,7 +7,7 @@ use Prim.Native.Nat.{ℕ}
 use Rattle.algebra.specs.Answer.{Answer, chain}
 use Rattle.algebra.specs.Loops.{tabulate}
 use Rattle.shots.specs.Sizes.{shotsMost}
-use Rattle.shots.specs.Coordinates.{countOf}
+use Rattle.shots.specs.Patch.{countOf}
 use Rattle.shots.specs.Tests.{shotRules}
 use Rattle.shots.specs.Calls.{Cocircuit, cocircuitOf, pairRule, signAt, signsWith}
 use Rattle.shots.proofs.Patch.{patch-near}

@@ -2,7 +2,7 @@
 use mathlib.Core.Path.{sym, _∙_}
 use mathlib.Core.List.{[], _∷_}
 use borrow.Author.Needs.{needs}
-use Rattle.shots.specs.Coordinates.{countOf}
+use Rattle.shots.specs.Patch.{countOf}
 use Rattle.shots.specs.Calls.{doubleAreaOf, shotsRule}
 use Rattle.shots.proofs.Patch.{patch-near}
 use Rattle.shots.proofs.Chains.{all-below, shots-refused, rule-broken, rule-kept}

@@ -4,7 +4,7 @@ use mathlib.Core.List.{[], _∷_}
 use borrow.Author.Needs.{needs}
 use mir.Syntax.{w8}
 use Rattle.algebra.proofs.SizeLaws.{read-back}
-use Rattle.shots.specs.Coordinates.{countOf}
+use Rattle.shots.specs.Patch.{countOf}
 use Rattle.shots.specs.Calls.{orientationOf, shotsRule}
 use Rattle.shots.proofs.Patch.{patch-near}
 use Rattle.shots.proofs.Chains.{all-below, shots-refused, rule-broken, rule-kept}

@@ -5,7 +5,7 @@ use borrow.Author.Needs.{needs}
 use borrow.Author.Tests.{eq-eqb, ne-eqb}
 use Rattle.algebra.specs.Sign.{isNought}
 use Rattle.algebra.proofs.SizeLaws.{sign-is-nought}
-use Rattle.shots.specs.Coordinates.{orientOf}
+use Rattle.shots.specs.Patch.{orientOf}
 use Rattle.circuits.specs.Filled.{Filled, filled, put}
 use Rattle.circuits.proofs.StepLaws.{three-bent, three-room, three-flat, three-sides}
 use Rattle.circuits.proofs.core.three.Statement.{statement}

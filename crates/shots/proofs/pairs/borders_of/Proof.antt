@@ -7,7 +7,7 @@ use native.Mathlib.Omega.{arith}
 use borrow.Author.Needs.{needs}
 use Rattle.algebra.specs.Loops.{tally}
 use Rattle.algebra.proofs.LoopLaws.{tally-none, tally-more, tally-end}
-use Rattle.shots.specs.Coordinates.{borderOf}
+use Rattle.shots.specs.Patch.{borderOf}
 use Rattle.shots.specs.Calls.{bordersOf}
 use Rattle.shots.proofs.pairs.borders_of.Statement.{statement}
 use Rattle.shots.proofs.pairs.borders_of.Tie as tie

@@ -2,7 +2,7 @@
 use mathlib.Core.Path.{sym, _∙_, ap}
 use mathlib.Core.Bool.{not}
 use borrow.Author.Needs.{needs}
-use Rattle.shots.specs.Coordinates.{borderOf}
+use Rattle.shots.specs.Patch.{borderOf}
 use Rattle.shots.proofs.Orientations.{right-is-left}
 use Rattle.shots.proofs.pairs.is_border.Statement.{statement}
 use Rattle.shots.proofs.pairs.is_border.Tie as tie

@@ -8,7 +8,7 @@ use Rattle.algebra.specs.Loops.{any}
 use Rattle.algebra.specs.Sign.{isPlus}
 use Rattle.algebra.proofs.LoopLaws.{any-none, found, go-on, none}
 use Rattle.algebra.proofs.SizeLaws.{sign-is-plus}
-use Rattle.shots.specs.Coordinates.{orientOf, someLeft}
+use Rattle.shots.specs.Patch.{orientOf, someLeft}
 use Rattle.shots.proofs.pairs.some_left.Statement.{statement}
 use Rattle.shots.proofs.pairs.some_left.Tie as tie
 

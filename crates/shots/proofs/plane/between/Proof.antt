@@ -10,7 +10,8 @@ use Rattle.algebra.proofs.Ring.{_⊝_, _⊗_, ring}
 use Rattle.algebra.proofs.SizeLaws.{read-back, below-is-minus}
 use Rattle.matroid.specs.Points.{Point, dot}
 use Rattle.matroid.proofs.Turns.{coordinates, X, Y, O}
-use Rattle.shots.specs.Coordinates.{xOf, yOf, pointOf, betweenOf}
+use Rattle.shots.specs.Coordinates.{xOf, yOf, pointOf}
+use Rattle.shots.specs.Patch.{betweenOf}
 use Rattle.shots.proofs.Bounds.{near-gap}
 use Rattle.shots.proofs.plane.between.Statement.{statement}
 use Rattle.shots.proofs.plane.between.Tie as tie

@@ -5,7 +5,7 @@ use lib.IntN.{ℤ}
 use mir.Syntax.{w8, w64}
 use Rattle.algebra.specs.Sign.{signOf, value}
 use Rattle.algebra.proofs.SizeLaws.{read-back}
-use Rattle.shots.specs.Coordinates.{orientOf}
+use Rattle.shots.specs.Patch.{orientOf}
 use Rattle.shots.proofs.plane.sign.Statement.{statement}
 use Rattle.shots.proofs.plane.sign.Tie as tie
 
