@@ -5,6 +5,7 @@
 --   orient-repeated                              0 for a repeated shot
 --   right-is-left                                what lies right of a pair lies left of the pair turned
 --   between-says                                 of three shots on a line, which of them lies between the others
+--   border-says                                  a border pair is one whose cocircuit has no two opposite signs
 use mathlib.Core.Path.{_≡_, refl, sym, _∙_, ap}
 use mathlib.Core.Logic.{_⊎_, inl, inr, _↔_}
 use mathlib.Core.Bool.{true}
@@ -13,14 +14,15 @@ use Prim.Native.Nat.{ℕ, _<_}
 use lib.IntN.{ℤ, pos}
 use Rattle.algebra.specs.Loops.{any}
 use Rattle.algebra.specs.Sign.{Sign, minus, nought, plus, signOf, opposite, isMinus, isPlus}
-use Rattle.algebra.specs.Answer.{Reflects}
-use Rattle.algebra.proofs.AnswerLaws.{reflects-iff, reflects-yes, reflects-true, reflects-minus}
-use Rattle.algebra.proofs.SignLaws.{signOf-zero, zero-signOf, signOf-opposite}
+use Rattle.algebra.specs.Answer.{Reflects, holds, fails}
+use Rattle.algebra.proofs.AnswerLaws.{reflects-iff, reflects-yes, reflects-true, reflects-minus, reflects-not, reflects-and}
+use Rattle.algebra.proofs.LoopLaws.{reflects-any}
+use Rattle.algebra.proofs.SignLaws.{signOf-zero, zero-signOf, signOf-opposite, plus-minus, plus-nought, minus-nought}
 use Rattle.matroid.specs.Points.{Between, chirotope, dot}
 use Rattle.matroid.proofs.Turns.{turn-is-det3, turn-cycle, turn-swap, turn-swap-first, turn-first, turn-last, turn-ends}
 use Rattle.matroid.proofs.Lines.{between-iff}
 use Rattle.shots.specs.Coordinates.{pointOf, areaOf}
-use Rattle.shots.specs.Patch.{countOf, orientOf, betweenOf, someLeft, someRight}
+use Rattle.shots.specs.Patch.{countOf, orientOf, betweenOf, someLeft, someRight, borderOf}
 use Rattle.shots.specs.Tests.{refusalOf}
 use Rattle.shots.proofs.Patch.{patch-differ}
 
@@ -29,6 +31,16 @@ unfolding opposite
 minus-plus minus = refl
 minus-plus nought = refl
 minus-plus plus = refl
+
+is-plus : (s : Sign) → Reflects (s ≡ plus) (isPlus s)
+is-plus minus = fails (λ e. plus-minus (sym e))
+is-plus nought = fails (λ e. plus-nought (sym e))
+is-plus plus = holds refl
+
+is-minus : (s : Sign) → Reflects (s ≡ minus) (isMinus s)
+is-minus minus = holds refl
+is-minus nought = fails (λ e. minus-nought (sym e))
+is-minus plus = fails (λ e. plus-minus e)
 
 module _ (l : List ℤ) where
   module _ (a b c : ℕ) where
@@ -65,9 +77,23 @@ module _ (l : List ℤ) where
   unfolding areaOf betweenOf
   between-decided m a b e ne = reflects-iff (between-iff (pointOf l m) (pointOf l a) (pointOf l b) e ne) (reflects-minus (dot (pointOf l m) (pointOf l a) (pointOf l b)))
 
-  pub between-says : refusalOf l ≡ 0 → (m a b : ℕ) → m < countOf l → a < countOf l → b < countOf l → (m ≡ a → ⊥) → (m ≡ b → ⊥) → orientOf l m a b ≡ nought → (betweenOf l m a b ≡ true) ↔ Between (pointOf l m) (pointOf l a) (pointOf l b)
+  pub between-says : refusalOf l ≡ 0 → (m a b : ℕ) → m < countOf l → b < countOf l → (m ≡ b → ⊥) → orientOf l m a b ≡ nought → (betweenOf l m a b ≡ true) ↔ Between (pointOf l m) (pointOf l a) (pointOf l b)
   unfolding orientOf areaOf
-  between-says h m a b ml al bl ma mb e = (λ t. reflects-yes decided t, λ s. reflects-true decided s)
+  between-says h m a b ml bl mb e = (λ t. reflects-yes decided t, λ s. reflects-true decided s)
     where
       decided : Reflects (Between (pointOf l m) (pointOf l a) (pointOf l b)) (betweenOf l m a b)
       decided = between-decided m a b (zero-signOf (areaOf l m a b) e) (patch-differ l h m b ml bl mb)
+
+  -- some shot has the sign s in the cocircuit of i, j
+  abbrev pub Has : ℕ → ℕ → Sign → Type 0
+  Has i j s = (k : ℕ) × (k < countOf l) × (orientOf l i j k ≡ s)
+
+  pub border-says : (i j : ℕ) → (borderOf l i j ≡ true) ↔ (Has i j plus × Has i j minus → ⊥)
+  unfolding borderOf someLeft someRight
+  border-says i j = (λ t. reflects-yes decided t, λ s. reflects-true decided s)
+    where
+      decided : Reflects (Has i j plus × Has i j minus → ⊥) (borderOf l i j)
+      decided =
+          reflects-not
+          (reflects-and (reflects-any (λ k. orientOf l i j k ≡ plus) (λ k. isPlus (orientOf l i j k)) (countOf l) (λ k h. is-plus (orientOf l i j k)))
+          (reflects-any (λ k. orientOf l i j k ≡ minus) (λ k. isMinus (orientOf l i j k)) (countOf l) (λ k h. is-minus (orientOf l i j k))))
