@@ -8,3 +8,4 @@ pub mod LoopLaws
 pub mod PicksLaws
 pub mod ListLaws
 pub mod OverLaws
+pub mod SetLaws

@@ -1,4 +1,5 @@
 pub mod Answer
 pub mod Loops
+pub mod Sets
 pub mod Sign
 pub mod Sum

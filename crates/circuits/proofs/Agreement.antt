@@ -7,15 +7,16 @@
 -- The published side is matroid's `Circuit`, which knows no determinant. Source 001, section 2; document 01, "Circuits".
 use mathlib.Core.Path.{_≡_, refl, sym, _∙_, ap, subst}
 use mathlib.Core.Logic.{_⊎_, inl, inr, ⊎-elim}
-use mathlib.Core.Bool.{true, false}
+use mathlib.Core.Bool.{true, false, not}
 use mathlib.Core.List.{List, [], _∷_}
 use Prim.Native.Nat.{ℕ, _<_}
 use native.Mathlib.Omega.{arith}
-use native.Mathlib.Decide.{ℕ-discrete}
+use native.Mathlib.Decide.{decLt}
 use lib.ListN.{length}
 use lib.IntN.{ℤ, pos}
 use Rattle.algebra.specs.Sign.{Sign, minus, nought, plus, signOf, opposite, isMinus, isNought, Pos, Neg, NZ}
-use Rattle.algebra.proofs.SignLaws.{signOf-pos, signOf-neg, signOf-zero, zero-signOf, signOf-opposite, opposite-opposite, nought-opposite, opposite-nought}
+use Rattle.algebra.proofs.SignLaws.{signOf-pos, signOf-neg, signOf-zero, zero-signOf, signOf-opposite, opposite-opposite}
+use Rattle.algebra.proofs.SetLaws.{lex-same, picks-same}
 use Rattle.algebra.proofs.ListLaws.{getD-mem, mem-getD}
 use Rattle.matroid.specs.Points.{Point, Configuration, turn, dot}
 use Rattle.matroid.specs.Circuits as published
@@ -29,12 +30,12 @@ use Rattle.shots.specs.Patch.{countOf, orientOf, betweenOf}
 use Rattle.shots.specs.Tests.{refusalOf}
 use Rattle.shots.proofs.Patch.{patch-distinct, patch-differ}
 use Rattle.circuits.specs.Sides.{Circuit, split, signIn}
-use Rattle.circuits.specs.Numbered.{endSign, terms3, terms4, circuitsOf}
+use Rattle.circuits.specs.Numbered.{endSign, terms3, terms4, circuitsOf, shotsIn, Before}
 use Rattle.circuits.specs.Calls.{circuitAt}
-use Rattle.circuits.proofs.SideLaws.{signOn, relative, match-at}
+use Rattle.circuits.proofs.SideLaws.{signOn, relative, match-at, relative-signed}
 use Rattle.circuits.proofs.StepLaws.{none-of}
 use Rattle.circuits.proofs.Sources.{Three, Four, Source, from3, from4, OnLine, NoneOnLine, sources, listed, Made, made}
-use Rattle.circuits.proofs.Signs.{sign-in, numbers-differ}
+use Rattle.circuits.proofs.Signs.{sign-in, numbers-in-order}
 
 -- ---- tests of a sign, as statements
 
@@ -55,6 +56,14 @@ Same X Y = ((i : ℕ) → X i ≡ Y i) ⊎ ((i : ℕ) → X i ≡ opposite (Y i)
 
 turn-twice : (X Y : SignVector) → ((i : ℕ) → X i ≡ opposite (Y i)) → (i : ℕ) → opposite (X i) ≡ Y i
 turn-twice X Y h i = ap opposite (h i) ∙ opposite-opposite (Y i)
+
+-- no list of shots comes before itself
+before-same : (s : List ℕ) → Before s s → ⊥
+before-same s (inl h) = never h
+  where
+    never : length s < length s → ⊥
+    never h = omega arith
+before-same s (inr h) = lex-same s (h .1)
 
 -- ---- a numbered circuit against the elementary dependency of its shots
 
@@ -257,17 +266,23 @@ module _ (l : List ℤ) (ok : refusalOf l ≡ 0) where
           let k = mem-getD (circuitsOf l) (record { plus = []; minus = [] }) (listed l (y .1)) in
           (k .0, k .1, joined (r .0) (circuitAt l (k .0)) (subst (λ (w : Circuit). Same (signIn w) (λ i. signOf (r .0 i))) (sym (k .2)) (y .2 .same)) (r .2))
 
--- two numbers whose circuits have the same shots are one, so the more where the signs agree or are all turned
+-- two numbers whose circuits have the same signs, or signs that are all turned, have the same shots, so they are one
 pub numbered-once : (l : List ℤ) (z z′ : ℕ) → z < length (circuitsOf l) → z′ < length (circuitsOf l)
     → Alike (countOf l) (signIn (circuitAt l z)) (signIn (circuitAt l z′)) ⊎ Alike (countOf l) (signIn (circuitAt l z)) (against (signIn (circuitAt l z′))) → z ≡ z′
-numbered-once l z z′ h h′ a = go (ℕ-discrete z z′)
+unfolding shotsIn
+numbered-once l z z′ h h′ a = go (decLt z z′) (decLt z′ z)
   where
-    there : (i : ℕ) → i < countOf l → signIn (circuitAt l z′) i ≡ nought → signIn (circuitAt l z) i ≡ nought
-    there i k e = ⊎-elim (λ x. x i k ∙ e) (λ x. x i k ∙ nought-opposite (signIn (circuitAt l z′) i) e) a
+    turned-same : (s : Sign) → isNought (opposite s) ≡ isNought s
+    turned-same s = relative-signed minus s
 
-    back : (i : ℕ) → i < countOf l → signIn (circuitAt l z) i ≡ nought → signIn (circuitAt l z′) i ≡ nought
-    back i k e = ⊎-elim (λ x. sym (x i k) ∙ e) (λ x. opposite-nought (signIn (circuitAt l z′) i) (sym (x i k) ∙ e)) a
+    shots-same : shotsIn (countOf l) (circuitAt l z) ≡ shotsIn (countOf l) (circuitAt l z′)
+    shots-same = picks-same (λ i. not (isNought (signIn (circuitAt l z) i))) (λ i. not (isNought (signIn (circuitAt l z′) i))) (countOf l)
+        (λ i k. ap not (⊎-elim (λ x. ap isNought (x i k)) (λ x. ap isNought (x i k) ∙ turned-same (signIn (circuitAt l z′) i)) a))
 
-    go : Dec (z ≡ z′) → z ≡ z′
-    go (yes e) = e
-    go (no ne) = absurd (⊎-elim (λ o. o .2 (there (o .0) (o .1) (o .3))) (λ o. o .2 (back (o .0) (o .1) (o .3))) (numbers-differ l (record { plus = []; minus = [] }) z z′ h h′ ne))
+    never : (s t : List ℕ) → s ≡ t → Before s t → ⊥
+    never s t e b = before-same t (subst (λ (x : List ℕ). Before x t) e b)
+
+    go : Dec (z < z′) → Dec (z′ < z) → z ≡ z′
+    go (yes k) d = absurd (never _ _ shots-same (numbers-in-order l (record { plus = []; minus = [] }) z z′ k h′))
+    go (no k) (yes j) = absurd (never _ _ (sym shots-same) (numbers-in-order l (record { plus = []; minus = [] }) z′ z j h))
+    go (no k) (no j) = omega arith

@@ -17,42 +17,55 @@ use borrow.Author.Tests.{ltb-false}
 use Rattle.algebra.specs.Loops.{any, run, over}
 use Rattle.algebra.specs.Sign.{isNought}
 use Rattle.algebra.proofs.LoopLaws.{any-no}
-use Rattle.algebra.proofs.OverLaws.{over-length}
+use Rattle.algebra.specs.Sets.{nest}
+use Rattle.algebra.proofs.SetLaws.{nest-length}
 use Rattle.shots.specs.Sizes.{shotsMost}
 use Rattle.shots.specs.Patch.{countOf, orientOf}
-use Rattle.circuits.specs.Sizes.{circuitsMost, threesOf, foursOf, candidates}
+use Rattle.circuits.specs.Sizes.{circuitsMost, setsOf, candidates}
 use Rattle.circuits.specs.Sides.{Circuit, split}
+use Rattle.circuits.proofs.Sources.{threeOf, fourOf, threes-nest, fours-nest}
 use Rattle.circuits.specs.Filled.{Filled, Fits}
-use Rattle.circuits.specs.Numbered.{terms3, terms4, someFlat, three, four, threesWith, threesFrom, threes, foursUpon, foursWith, foursFrom, fours, circuitsOf}
+use Rattle.circuits.specs.Numbered.{terms3, terms4, someFlat, three, four, threes, fours, circuitsOf}
 
 -- one circuit at most
-some-or-none : (b : Bool) (x y : List Circuit) → length x ≤ 1 → length y ≤ 1 → length (cond b x y) ≤ 1
-some-or-none true x y h k = h
-some-or-none false x y h k = k
+one-or-none : (b : Bool) (z : Circuit) → (length (cond b (z ∷ []) []) ≤ 1) × (length (cond b [] (z ∷ [])) ≤ 1)
+one-or-none true z = (omega arith, omega arith)
+one-or-none false z = (omega arith, omega arith)
 
 module _ (l : List ℤ) where
-  threes-few : length (threes l) ≤ length (threesOf (countOf l))
-  unfolding threes threesFrom threesWith three threesOf
-  threes-few =
-      over-length _ _ 0 (countOf l) (λ a. over-length _ _ (a + 1) (countOf l) (λ b. over-length _ _ (b + 1) (countOf l) (λ c.
-      some-or-none (isNought (orientOf l a b c)) (split (terms3 l a b c) ∷ []) [] (omega arith) (omega arith))))
+  three-most : (s : List ℕ) → length (threeOf l s) ≤ 1
+  unfolding three
+  three-most [] = omega arith
+  three-most (a ∷ []) = omega arith
+  three-most (a ∷ b ∷ []) = omega arith
+  three-most (a ∷ b ∷ c ∷ []) = one-or-none (isNought (orientOf l a b c)) (split (terms3 l a b c)) .0
+  three-most (a ∷ b ∷ c ∷ d ∷ s) = omega arith
 
-  fours-few : length (fours l) ≤ length (foursOf (countOf l))
-  unfolding fours foursFrom foursWith foursUpon four foursOf
-  fours-few =
-      over-length _ _ 0 (countOf l) (λ a. over-length _ _ (a + 1) (countOf l) (λ b. over-length _ _ (b + 1) (countOf l) (λ c. over-length _ _ (c + 1) (countOf l) (λ d.
-      some-or-none (someFlat l a b c d) [] (split (terms4 l a b c d) ∷ []) (omega arith) (omega arith)))))
+  four-most : (s : List ℕ) → length (fourOf l s) ≤ 1
+  unfolding four
+  four-most [] = omega arith
+  four-most (a ∷ []) = omega arith
+  four-most (a ∷ b ∷ []) = omega arith
+  four-most (a ∷ b ∷ c ∷ []) = omega arith
+  four-most (a ∷ b ∷ c ∷ d ∷ []) = one-or-none (someFlat l a b c d) (split (terms4 l a b c d)) .1
+  four-most (a ∷ b ∷ c ∷ d ∷ e ∷ s) = omega arith
+
+  threes-few : length (threes l) ≤ length (setsOf 3 (countOf l))
+  threes-few = rw (threes-nest l) (nest-length 3 (threeOf l) (λ s. s ∷ []) 0 (countOf l) three-most)
+
+  fours-few : length (fours l) ≤ length (setsOf 4 (countOf l))
+  fours-few = rw (fours-nest l) (nest-length 4 (fourOf l) (λ s. s ∷ []) 0 (countOf l) four-most)
 
   pub circuits-few : length (circuitsOf l) ≤ candidates (countOf l)
   unfolding circuitsOf candidates
-  circuits-few = omega (arith, length-append (threes l) (fours l), length-append (threesOf (countOf l)) (foursOf (countOf l)), threes-few, fours-few)
+  circuits-few = omega (arith, length-append (threes l) (fours l), length-append (setsOf 3 (countOf l)) (setsOf 4 (countOf l)), threes-few, fours-few)
 
 -- the test over every number of shots, computed
 too-many : ℕ → Bool
 too-many n = ltb circuitsMost (candidates n)
 
 none-too-many : any (suc shotsMost) too-many ≡ false
-unfolding too-many any candidates threesOf foursOf over run
+unfolding too-many any candidates nest over run
 none-too-many = refl
 
 pub candidates-most : (n : ℕ) → n ≤ shotsMost → candidates n ≤ circuitsMost

@@ -1,9 +1,9 @@
 pub mod MaskLaws
 pub mod FilledLaws
-pub mod Bounds
 pub mod SideLaws
 pub mod StepLaws
 pub mod Sources
 pub mod Signs
+pub mod Bounds
 pub mod Agreement
 pub mod Promises

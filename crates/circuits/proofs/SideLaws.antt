@@ -2,24 +2,27 @@
 --
 --   signOn ts i      the sign of shot i among the terms ts, nought where it is in none
 --   relative s v     v, turned where s is minus: the sign against that of the first shot
---   Rising lo ts     the shots of ts are increasing, from lo on
+--   shotsOf ts       the shots of the terms
 --   on-side          a shot is on the side of sign s exactly when s is its sign
 --   Values, Off      what is known of a sign v at i: it is the sign of the term with that shot; no term has that shot
 --   match-at         a sign known so is the sign of shot i among the terms
 --   sign-of-split    the sign of a shot in a split list of terms is its sign against that of the first
+--   on-shots         the shots with a sign are the shots of the terms
 --   mask-below       a side of shots below n has a mask below 2 ^ n
 use mathlib.Core.Path.{_≡_, refl, sym, _∙_, ap}
-use mathlib.Core.Bool.{Bool, true, false, cond, _||_, true≢false}
+use mathlib.Core.Bool.{Bool, true, false, cond, not, _||_, true≢false}
 use mathlib.Core.List.{List, [], _∷_}
 use Prim.Native.Nat.{ℕ, suc, _+_, _^_, _<_, _≤_}
 use native.Mathlib.Omega.{arith}
+use native.Mathlib.Numerals.{add-one}
 use native.Mathlib.Decide.{ℕ-discrete}
 use lib.Dec.{eqb}
 use lib.Pow.{pow-mono}
 use borrow.Author.Tests.{eq-eqb, ne-eqb}
+use Rattle.algebra.specs.Sets.{isOn, Within}
 use Rattle.algebra.specs.Sign.{Sign, minus, nought, plus, opposite, isNought, sameSign}
-use Rattle.circuits.specs.Sides.{Term, side, split, maskOf, isOn, signIn}
-use Rattle.circuits.proofs.MaskLaws.{turned-signed}
+use Rattle.circuits.specs.Sides.{Term, side, split, maskOf, signIn}
+use Rattle.circuits.proofs.MaskLaws.{Signed, turned-signed}
 
 abbrev pub signOn : List Term → ℕ → Sign
 signOn [] i = nought
@@ -30,14 +33,14 @@ relative minus v = opposite v
 relative nought v = v
 relative plus v = v
 
-abbrev pub Rising : ℕ → List Term → Type 0
-Rising lo [] = Unit {0}
-Rising lo (t ∷ ts) = (lo ≤ t .shot) × Rising (suc (t .shot)) ts
+abbrev pub shotsOf : List Term → List ℕ
+shotsOf [] = []
+shotsOf (t ∷ ts) = t .shot ∷ shotsOf ts
 
 -- a shot before all of them is in none
-pub early-off : (lo i : ℕ) (ts : List Term) → Rising lo ts → i < lo → signOn ts i ≡ nought
-early-off lo i [] r h = refl
-early-off lo i (t ∷ ts) r h = rw (ne-eqb i (t .shot) (λ e. apart (r .0) e)) (early-off (suc (t .shot)) i ts (r .1) (let k = r .0 in omega arith))
+pub early-nought : (lo n i : ℕ) (ts : List Term) → Within lo (shotsOf ts) n → i < lo → signOn ts i ≡ nought
+early-nought lo n i [] w h = refl
+early-nought lo n i (t ∷ ts) w h = rw (ne-eqb i (t .shot) (λ e. apart (w .0) e)) (early-nought (t .shot + 1) n i ts (w .2) (let k = w .0 in omega arith))
   where
     apart : lo ≤ t .shot → i ≡ t .shot → ⊥
     apart k e = omega arith
@@ -54,10 +57,10 @@ on-cond true false i j s e = rw e refl
 on-cond false true i j s e = refl
 on-cond false false i j s e = refl
 
-pub on-side : (s : Sign) (lo : ℕ) (ts : List Term) (i : ℕ) → isNought s ≡ false → Rising lo ts → isOn i (side s ts) ≡ sameSign s (signOn ts i)
+pub on-side : (s : Sign) (lo n : ℕ) (ts : List Term) (i : ℕ) → isNought s ≡ false → Within lo (shotsOf ts) n → isOn i (side s ts) ≡ sameSign s (signOn ts i)
 unfolding side isOn
-on-side s lo [] i h r = sym (same-nought s h)
-on-side s lo (t ∷ ts) i h r = go (ℕ-discrete i (t .shot)) (on-side s (suc (t .shot)) ts i h (r .1))
+on-side s lo n [] i h r = sym (same-nought s h)
+on-side s lo n (t ∷ ts) i h r = go (ℕ-discrete i (t .shot)) (on-side s (t .shot + 1) n ts i h (r .2))
   where
     back : (b : Bool) → (b || false) ≡ b
     back true = refl
@@ -66,7 +69,7 @@ on-side s lo (t ∷ ts) i h r = go (ℕ-discrete i (t .shot)) (on-side s (suc (t
     go : Dec (i ≡ t .shot) → isOn i (side s ts) ≡ sameSign s (signOn ts i) → isOn i (cond (sameSign s (t .sign)) (t .shot ∷ side s ts) (side s ts)) ≡ sameSign s (cond (eqb i (t .shot)) (t .sign) (signOn ts i))
     go (yes e) ih =
         on-cond (sameSign s (t .sign)) true i (t .shot) (side s ts) (eq-eqb i (t .shot) e)
-        ∙ ap (λ (x : Bool). sameSign s (t .sign) || x) (ih ∙ ap (sameSign s) (early-off (suc (t .shot)) i ts (r .1) (omega arith)) ∙ same-nought s h)
+        ∙ ap (λ (x : Bool). sameSign s (t .sign) || x) (ih ∙ ap (sameSign s) (early-nought (t .shot + 1) n i ts (r .2) (omega arith)) ∙ same-nought s h)
         ∙ back (sameSign s (t .sign)) ∙ sym (rw (eq-eqb i (t .shot) e) refl)
     go (no f) ih = on-cond (sameSign s (t .sign)) false i (t .shot) (side s ts) (ne-eqb i (t .shot) f) ∙ ih ∙ sym (rw (ne-eqb i (t .shot) f) refl)
 
@@ -80,19 +83,19 @@ chosen plus minus h = refl
 chosen plus nought h = refl
 chosen plus plus h = refl
 
-pub sign-of-split : (t : Term) (ts : List Term) (i : ℕ) → isNought (t .sign) ≡ false → Rising 0 (t ∷ ts) → signIn (split (t ∷ ts)) i ≡ relative (t .sign) (signOn (t ∷ ts) i)
+pub sign-of-split : (n : ℕ) (t : Term) (ts : List Term) (i : ℕ) → isNought (t .sign) ≡ false → Within 0 (shotsOf (t ∷ ts)) n → signIn (split (t ∷ ts)) i ≡ relative (t .sign) (signOn (t ∷ ts) i)
 unfolding signIn split
-sign-of-split t ts i h r =
-    rw (on-side (t .sign) 0 (t ∷ ts) i h r, on-side (opposite (t .sign)) 0 (t ∷ ts) i (turned-signed (t .sign) h) r) (chosen (t .sign) (signOn (t ∷ ts) i) h)
+sign-of-split n t ts i h r =
+    rw (on-side (t .sign) 0 n (t ∷ ts) i h r, on-side (opposite (t .sign)) 0 n (t ∷ ts) i (turned-signed (t .sign) h) r) (chosen (t .sign) (signOn (t ∷ ts) i) h)
 
 -- a sign against another one is nought exactly when it is
-pub relative-nought : (s v : Sign) → relative s v ≡ nought → v ≡ nought
+pub relative-signed : (s v : Sign) → isNought (relative s v) ≡ isNought v
 unfolding opposite
-relative-nought minus minus e = cc
-relative-nought minus nought e = refl
-relative-nought minus plus e = cc
-relative-nought nought v e = e
-relative-nought plus v e = e
+relative-signed minus minus = refl
+relative-signed minus nought = refl
+relative-signed minus plus = refl
+relative-signed nought v = refl
+relative-signed plus v = refl
 
 pub nought-relative : (s v : Sign) → v ≡ nought → relative s v ≡ nought
 unfolding opposite
@@ -124,25 +127,29 @@ match-at i v (t ∷ ts) h o = go (ℕ-discrete i (t .shot)) (λ k. match-at i v 
     go (yes e) ih = rw (eq-eqb i (t .shot) e) (sym (h .0 e))
     go (no f) ih = rw (ne-eqb i (t .shot) f) (ih (λ k. o (f, k)))
 
-pub off-nought : (i : ℕ) (ts : List Term) → Off i ts → signOn ts i ≡ nought
-off-nought i [] o = refl
-off-nought i (t ∷ ts) o = rw (ne-eqb i (t .shot) (o .0)) (off-nought i ts (o .1))
+-- where every term has a sign, the shots with one are the shots of the terms
+pub on-shots : (i : ℕ) (ts : List Term) → Signed ts → not (isNought (signOn ts i)) ≡ isOn i (shotsOf ts)
+unfolding isOn
+on-shots i [] s = refl
+on-shots i (t ∷ ts) s = go (ℕ-discrete i (t .shot)) (on-shots i ts (s .1))
+  where
+    go : Dec (i ≡ t .shot) → not (isNought (signOn ts i)) ≡ isOn i (shotsOf ts) → not (isNought (cond (eqb i (t .shot)) (t .sign) (signOn ts i))) ≡ (eqb i (t .shot) || isOn i (shotsOf ts))
+    go (yes e) ih = rw (eq-eqb i (t .shot) e, s .0) refl
+    go (no f) ih = rw (ne-eqb i (t .shot) f) ih
 
 -- ---- masks
 
--- the shots of a side are below n
-abbrev pub Lower : ℕ → List Term → Type 0
-Lower n [] = Unit {0}
-Lower n (t ∷ ts) = (t .shot < n) × Lower n ts
-
-mask-rising : (s : Sign) (lo n : ℕ) (ts : List Term) → lo ≤ n → Rising lo ts → Lower n ts → 2 ^ lo + maskOf (side s ts) ≤ 2 ^ n
+mask-above : (s : Sign) (lo n : ℕ) (ts : List Term) → lo ≤ n → Within lo (shotsOf ts) n → 2 ^ lo + maskOf (side s ts) ≤ 2 ^ n
 unfolding maskOf side
-mask-rising s lo n [] h r k = omega (arith, pow-mono h)
-mask-rising s lo n (t ∷ ts) h r k = go (sameSign s (t .sign)) (mask-rising s (suc (t .shot)) n ts (k .0) (r .1) (k .1))
+mask-above s lo n [] h w = omega (arith, pow-mono h)
+mask-above s lo n (t ∷ ts) h w = go (sameSign s (t .sign)) (mask-above s (t .shot + 1) n ts (let k = w .1 in omega arith) (w .2))
   where
-    go : (b : Bool) → 2 ^ suc (t .shot) + maskOf (side s ts) ≤ 2 ^ n → 2 ^ lo + maskOf (cond b (t .shot ∷ side s ts) (side s ts)) ≤ 2 ^ n
-    go true ih = omega (arith, pow-mono (r .0))
-    go false ih = omega (arith, pow-mono (r .0))
+    next : 2 ^ (t .shot + 1) ≡ 2 ^ suc (t .shot)
+    next = ap (λ (x : ℕ). 2 ^ x) (add-one (t .shot))
 
-pub mask-below : (s : Sign) (n : ℕ) (ts : List Term) → Rising 0 ts → Lower n ts → maskOf (side s ts) < 2 ^ n
-mask-below s n ts r k = omega (arith, mask-rising s 0 n ts (omega arith) r k)
+    go : (b : Bool) → 2 ^ (t .shot + 1) + maskOf (side s ts) ≤ 2 ^ n → 2 ^ lo + maskOf (cond b (t .shot ∷ side s ts) (side s ts)) ≤ 2 ^ n
+    go true ih = omega (arith, next, pow-mono (w .0))
+    go false ih = omega (arith, next, pow-mono (w .0))
+
+pub mask-below : (s : Sign) (n : ℕ) (ts : List Term) → Within 0 (shotsOf ts) n → maskOf (side s ts) < 2 ^ n
+mask-below s n ts w = omega (arith, mask-above s 0 n ts (omega arith) w)

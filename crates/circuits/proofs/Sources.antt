@@ -1,9 +1,11 @@
 -- Where the numbered circuits come from: each is made of three shots on a line or of four with no three on a line, and each such set makes one.
 --
---   Source l z          how z was made
---   sources, listed     every numbered circuit has a source; what has a source is numbered
---   Made n z            z is split from terms with signs, their shots increasing and below n
---   made                every source makes a circuit so
+--   threeOf l s, fourOf l s      the circuit of a list of shots, or none
+--   threes-nest, fours-nest      the loops go through the increasing lists of three and of four shots
+--   Three, Four                  three and four shots in order
+--   Source l z                   how z was made
+--   sources, listed              every numbered circuit has a source; what has a source is numbered
+--   Made n z                     z is split from terms with signs, their shots increasing and below n; `made`: every source makes a circuit so
 use mathlib.Core.Path.{_≡_, refl, sym, subst}
 use mathlib.Core.Logic.{⊎-elim}
 use mathlib.Core.Bool.{Bool, true, false, cond}
@@ -11,19 +13,41 @@ use mathlib.Core.List.{List, [], _∷_, List·Memᴰ, List·Memᴰ·head, List·
 use Prim.Native.Nat.{ℕ, _+_, _<_, _≤_}
 use native.Mathlib.Omega.{arith}
 use lib.IntN.{ℤ}
+use Rattle.algebra.specs.Sets.{Within, nest}
 use Rattle.algebra.specs.Sign.{opposite, isNought}
-use Rattle.algebra.proofs.OverLaws.{over-in, over-out}
+use Rattle.algebra.proofs.SetLaws.{nest-in, nest-out}
 use Rattle.shots.specs.Patch.{countOf, orientOf, betweenOf}
 use Rattle.circuits.specs.Sides.{Circuit, Term, split}
 use Rattle.circuits.specs.Numbered.{endSign, terms3, terms4, someFlat, three, threesWith, threesFrom, threes, four, foursUpon, foursWith, foursFrom, fours, circuitsOf}
 use Rattle.circuits.proofs.MaskLaws.{Signed, turned-signed}
-use Rattle.circuits.proofs.SideLaws.{Rising, Lower}
+use Rattle.circuits.proofs.SideLaws.{shotsOf}
 use Rattle.circuits.proofs.StepLaws.{end-signed, none-of}
 
-after : {i j : ℕ} → i + 1 ≤ j → i < j
-after h = omega arith
+abbrev pub threeOf : List ℤ → List ℕ → List Circuit
+threeOf l [] = []
+threeOf l (a ∷ []) = []
+threeOf l (a ∷ b ∷ []) = []
+threeOf l (a ∷ b ∷ c ∷ []) = three l a b c
+threeOf l (a ∷ b ∷ c ∷ d ∷ s) = []
 
--- shots in order
+abbrev pub fourOf : List ℤ → List ℕ → List Circuit
+fourOf l [] = []
+fourOf l (a ∷ []) = []
+fourOf l (a ∷ b ∷ []) = []
+fourOf l (a ∷ b ∷ c ∷ []) = []
+fourOf l (a ∷ b ∷ c ∷ d ∷ []) = four l a b c d
+fourOf l (a ∷ b ∷ c ∷ d ∷ e ∷ s) = []
+
+pub threes-nest : (l : List ℤ) → threes l ≡ nest 3 (threeOf l) 0 (countOf l)
+unfolding threes threesFrom threesWith nest
+threes-nest l = refl
+
+pub fours-nest : (l : List ℤ) → fours l ≡ nest 4 (fourOf l) 0 (countOf l)
+unfolding fours foursFrom foursWith foursUpon nest
+fours-nest l = refl
+
+-- ---- three and four shots in order
+
 pub record Three (n : ℕ) : Type 0 where
   pub a : ℕ
   pub b : ℕ
@@ -42,6 +66,30 @@ pub record Four (n : ℕ) : Type 0 where
   pub cd : c < d
   pub dn : d < n
 
+after : {i j : ℕ} → i + 1 ≤ j → i < j
+after h = omega arith
+
+behind : {i j : ℕ} → i < j → i + 1 ≤ j
+behind h = omega arith
+
+abbrev three-at : (n a b c : ℕ) → Within 0 (a ∷ b ∷ c ∷ []) n → Three n
+three-at n a b c w = record { a = a; b = b; c = c; ab = after (w .2 .0); bc = after (w .2 .2 .0); cn = w .2 .2 .1 }
+
+abbrev four-at : (n a b c d : ℕ) → Within 0 (a ∷ b ∷ c ∷ d ∷ []) n → Four n
+four-at n a b c d w = record { a = a; b = b; c = c; d = d; ab = after (w .2 .0); bc = after (w .2 .2 .0); cd = after (w .2 .2 .2 .0); dn = w .2 .2 .2 .1 }
+
+pub three-within : {n : ℕ} (t : Three n) → Within 0 (t .a ∷ t .b ∷ t .c ∷ []) n
+three-within t =
+    let p = t .ab in let q = t .bc in let r = t .cn in
+    (omega arith, omega arith, (behind p, omega arith, (behind q, r, tt)))
+
+pub four-within : {n : ℕ} (q : Four n) → Within 0 (q .a ∷ q .b ∷ q .c ∷ q .d ∷ []) n
+four-within q =
+    let h = q .ab in let i = q .bc in let j = q .cd in let k = q .dn in
+    (omega arith, omega arith, (behind h, omega arith, (behind i, omega arith, (behind j, k, tt))))
+
+-- ---- from a circuit to its shots and back
+
 module _ (l : List ℤ) where
   abbrev n : ℕ
   n = countOf l
@@ -56,95 +104,63 @@ module _ (l : List ℤ) where
     from3 : (t : Three n) → OnLine t → Source (split (terms3 l (t .a) (t .b) (t .c)))
     from4 : (q : Four n) → NoneOnLine q → Source (split (terms4 l (q .a) (q .b) (q .c) (q .d)))
 
-  -- made of three shots, of four
-  abbrev pub Threes : Circuit → Type 0
-  Threes z = (t : Three n) × OnLine t × (z ≡ split (terms3 l (t .a) (t .b) (t .c)))
-
-  abbrev pub Fours : Circuit → Type 0
-  Fours z = (q : Four n) × NoneOnLine q × (z ≡ split (terms4 l (q .a) (q .b) (q .c) (q .d)))
+  -- of which shots
+  abbrev pub shots : {z : Circuit} → Source z → List ℕ
+  shots (from3 t h) = t .a ∷ t .b ∷ t .c ∷ []
+  shots (from4 q h) = q .a ∷ q .b ∷ q .c ∷ q .d ∷ []
 
   -- one circuit or none
-  from-cond : (b : Bool) (z x : Circuit) → List·Memᴰ x (cond b (z ∷ []) []) → (b ≡ true) × (x ≡ z)
-  from-cond true z x m = (refl, List·Memᴰ·eq-of-singleton m)
-  from-cond false z x m = absurd (List·Memᴰ·not-nil m)
+  if-so : (b : Bool) (z x : Circuit) → List·Memᴰ x (cond b (z ∷ []) []) → (b ≡ true) × (x ≡ z)
+  if-so true z x m = (refl, List·Memᴰ·eq-of-singleton m)
+  if-so false z x m = absurd (List·Memᴰ·not-nil m)
 
-  not-cond : (b : Bool) (z x : Circuit) → List·Memᴰ x (cond b [] (z ∷ [])) → (b ≡ false) × (x ≡ z)
-  not-cond true z x m = absurd (List·Memᴰ·not-nil m)
-  not-cond false z x m = (refl, List·Memᴰ·eq-of-singleton m)
+  if-not : (b : Bool) (z x : Circuit) → List·Memᴰ x (cond b [] (z ∷ [])) → (b ≡ false) × (x ≡ z)
+  if-not true z x m = absurd (List·Memᴰ·not-nil m)
+  if-not false z x m = (refl, List·Memᴰ·eq-of-singleton m)
 
-  -- a member of `three l a b c`, of `four l a b c d`
-  pub three-out : (t : Three n) {z : Circuit} → List·Memᴰ z (three l (t .a) (t .b) (t .c)) → OnLine t × (z ≡ split (terms3 l (t .a) (t .b) (t .c)))
+  -- a source of z with the shots s
+  abbrev pub Of : List ℕ → Circuit → Type 0
+  Of s z = (k : Source z) × (shots k ≡ s)
+
+  pub three-out : (s : List ℕ) {z : Circuit} → Within 0 s n → List·Memᴰ z (threeOf l s) → Of s z
   unfolding three
-  three-out t {z} m = from-cond (isNought (orientOf l (t .a) (t .b) (t .c))) (split (terms3 l (t .a) (t .b) (t .c))) z m
+  three-out [] w m = absurd (List·Memᴰ·not-nil m)
+  three-out (a ∷ []) w m = absurd (List·Memᴰ·not-nil m)
+  three-out (a ∷ b ∷ []) w m = absurd (List·Memᴰ·not-nil m)
+  three-out (a ∷ b ∷ c ∷ []) {z} w m =
+      let r = if-so (isNought (orientOf l a b c)) (split (terms3 l a b c)) z m in
+      subst (Of (a ∷ b ∷ c ∷ [])) (sym (r .1)) (from3 (three-at n a b c w) (r .0), refl)
+  three-out (a ∷ b ∷ c ∷ d ∷ s) w m = absurd (List·Memᴰ·not-nil m)
 
-  pub four-out : (q : Four n) {z : Circuit} → List·Memᴰ z (four l (q .a) (q .b) (q .c) (q .d)) → NoneOnLine q × (z ≡ split (terms4 l (q .a) (q .b) (q .c) (q .d)))
+  pub four-out : (s : List ℕ) {z : Circuit} → Within 0 s n → List·Memᴰ z (fourOf l s) → Of s z
   unfolding four
-  four-out q {z} m = not-cond (someFlat l (q .a) (q .b) (q .c) (q .d)) (split (terms4 l (q .a) (q .b) (q .c) (q .d))) z m
-
-  -- ---- through the loops
-
-  pub threesWith-out : (a b : ℕ) {z : Circuit} → List·Memᴰ z (threesWith l a b) → (c : ℕ) × (b < c) × (c < n) × List·Memᴰ z (three l a b c)
-  unfolding threesWith
-  threesWith-out a b m = let r = over-out (three l a b) (b + 1) n m in (r .0, after (r .1), r .2, r .3)
-
-  pub threesFrom-out : (a : ℕ) {z : Circuit} → List·Memᴰ z (threesFrom l a) → (b : ℕ) × (a < b) × (b < n) × List·Memᴰ z (threesWith l a b)
-  unfolding threesFrom
-  threesFrom-out a m = let r = over-out (threesWith l a) (a + 1) n m in (r .0, after (r .1), r .2, r .3)
-
-  pub foursUpon-out : (a b c : ℕ) {z : Circuit} → List·Memᴰ z (foursUpon l a b c) → (d : ℕ) × (c < d) × (d < n) × List·Memᴰ z (four l a b c d)
-  unfolding foursUpon
-  foursUpon-out a b c m = let r = over-out (four l a b c) (c + 1) n m in (r .0, after (r .1), r .2, r .3)
-
-  pub foursWith-out : (a b : ℕ) {z : Circuit} → List·Memᴰ z (foursWith l a b) → (c : ℕ) × (b < c) × (c < n) × List·Memᴰ z (foursUpon l a b c)
-  unfolding foursWith
-  foursWith-out a b m = let r = over-out (foursUpon l a b) (b + 1) n m in (r .0, after (r .1), r .2, r .3)
-
-  pub foursFrom-out : (a : ℕ) {z : Circuit} → List·Memᴰ z (foursFrom l a) → (b : ℕ) × (a < b) × (b < n) × List·Memᴰ z (foursWith l a b)
-  unfolding foursFrom
-  foursFrom-out a m = let r = over-out (foursWith l a) (a + 1) n m in (r .0, after (r .1), r .2, r .3)
-
-  pub threes-out : {z : Circuit} → List·Memᴰ z (threes l) → Threes z
-  unfolding threes
-  threes-out {z} m =
-      let r = over-out (threesFrom l) 0 n m in
-      let s = threesFrom-out (r .0) (r .3) in
-      let u = threesWith-out (r .0) (s .0) (s .3) in
-      let t : Three n = record { a = r .0; b = s .0; c = u .0; ab = s .1; bc = u .1; cn = u .2 } in
-      let o = three-out t (u .3) in
-      (t, o .0, o .1)
-
-  pub fours-out : {z : Circuit} → List·Memᴰ z (fours l) → Fours z
-  unfolding fours
-  fours-out {z} m =
-      let r = over-out (foursFrom l) 0 n m in
-      let s = foursFrom-out (r .0) (r .3) in
-      let u = foursWith-out (r .0) (s .0) (s .3) in
-      let v = foursUpon-out (r .0) (s .0) (u .0) (u .3) in
-      let q : Four n = record { a = r .0; b = s .0; c = u .0; d = v .0; ab = s .1; bc = u .1; cd = v .1; dn = v .2 } in
-      let o = four-out q (v .3) in
-      (q, o .0, o .1)
+  four-out [] w m = absurd (List·Memᴰ·not-nil m)
+  four-out (a ∷ []) w m = absurd (List·Memᴰ·not-nil m)
+  four-out (a ∷ b ∷ []) w m = absurd (List·Memᴰ·not-nil m)
+  four-out (a ∷ b ∷ c ∷ []) w m = absurd (List·Memᴰ·not-nil m)
+  four-out (a ∷ b ∷ c ∷ d ∷ []) {z} w m =
+      let r = if-not (someFlat l a b c d) (split (terms4 l a b c d)) z m in
+      subst (Of (a ∷ b ∷ c ∷ d ∷ [])) (sym (r .1)) (from4 (four-at n a b c d w) (r .0), refl)
+  four-out (a ∷ b ∷ c ∷ d ∷ e ∷ s) w m = absurd (List·Memᴰ·not-nil m)
 
   pub sources : {z : Circuit} → List·Memᴰ z (circuitsOf l) → Source z
   unfolding circuitsOf
-  sources m =
-      ⊎-elim (λ k. let r = threes-out k in subst Source (sym (r .2)) (from3 (r .0) (r .1))) (λ k. let r = fours-out k in subst Source (sym (r .2)) (from4 (r .0) (r .1)))
+  sources {z} m =
+      ⊎-elim
+      (λ k. let r = nest-out 3 (threeOf l) 0 n (subst (List·Memᴰ z) (threes-nest l) k) in three-out (r .0) (r .1) (r .3) .0)
+      (λ k. let r = nest-out 4 (fourOf l) 0 n (subst (List·Memᴰ z) (fours-nest l) k) in four-out (r .0) (r .1) (r .3) .0)
       (List·Memᴰ·append-cases (threes l) m)
 
   pub listed : {z : Circuit} → Source z → List·Memᴰ z (circuitsOf l)
-  unfolding circuitsOf threes threesFrom threesWith three fours foursFrom foursWith foursUpon four
+  unfolding circuitsOf three four
   listed (from3 t h) =
       Memᴰ·append-left (fours l)
-      (over-in (threesFrom l) 0 n (t .a) (omega arith) (let i = t .ab in let j = t .bc in let k = t .cn in omega arith)
-      (over-in (threesWith l (t .a)) (t .a + 1) n (t .b) (let i = t .ab in omega arith) (let j = t .bc in let k = t .cn in omega arith)
-      (over-in (three l (t .a) (t .b)) (t .b + 1) n (t .c) (let j = t .bc in omega arith) (t .cn)
-      (rw h (List·Memᴰ·head refl)))))
+      (subst (List·Memᴰ (split (terms3 l (t .a) (t .b) (t .c)))) (sym (threes-nest l))
+      (nest-in 3 (threeOf l) 0 n (t .a ∷ t .b ∷ t .c ∷ []) (three-within t) refl (rw h (List·Memᴰ·head refl))))
   listed (from4 q h) =
       Memᴰ·append-right (threes l)
-      (over-in (foursFrom l) 0 n (q .a) (omega arith) (let i = q .ab in let j = q .bc in let k = q .cd in let m = q .dn in omega arith)
-      (over-in (foursWith l (q .a)) (q .a + 1) n (q .b) (let i = q .ab in omega arith) (let j = q .bc in let k = q .cd in let m = q .dn in omega arith)
-      (over-in (foursUpon l (q .a) (q .b)) (q .b + 1) n (q .c) (let j = q .bc in omega arith) (let k = q .cd in let m = q .dn in omega arith)
-      (over-in (four l (q .a) (q .b) (q .c)) (q .c + 1) n (q .d) (let k = q .cd in omega arith) (q .dn)
-      (rw h (List·Memᴰ·head refl))))))
+      (subst (List·Memᴰ (split (terms4 l (q .a) (q .b) (q .c) (q .d)))) (sym (fours-nest l))
+      (nest-in 4 (fourOf l) 0 n (q .a ∷ q .b ∷ q .c ∷ q .d ∷ []) (four-within q) refl (rw h (List·Memᴰ·head refl))))
 
 -- ---- what every circuit is made of
 
@@ -153,8 +169,7 @@ pub record Made (n : ℕ) (z : Circuit) : Type 0 where
   pub rest : List Term
   pub is : z ≡ split (first ∷ rest)
   pub signed : Signed (first ∷ rest)
-  pub rising : Rising 0 (first ∷ rest)
-  pub lower : Lower n (first ∷ rest)
+  pub within : Within 0 (shotsOf (first ∷ rest)) n
 
 unfoldable pub made : (l : List ℤ) {z : Circuit} → Source l z → Made (countOf l) z
 made l (from3 t h) =
@@ -163,8 +178,7 @@ made l (from3 t h) =
       rest = record { shot = t .b; sign = endSign (betweenOf l (t .b) (t .a) (t .c)) } ∷ record { shot = t .c; sign = endSign (betweenOf l (t .c) (t .a) (t .b)) } ∷ [];
       is = refl;
       signed = (end-signed (betweenOf l (t .a) (t .b) (t .c)), (end-signed (betweenOf l (t .b) (t .a) (t .c)), (end-signed (betweenOf l (t .c) (t .a) (t .b)), tt)));
-      rising = (omega arith, (t .ab, (t .bc, tt)));
-      lower = (let i = t .ab in let j = t .bc in let k = t .cn in omega arith, (let j = t .bc in let k = t .cn in omega arith, (t .cn, tt)));
+      within = three-within t;
     }
 made l (from4 q h) =
     let o = none-of (isNought (orientOf l (q .b) (q .c) (q .d))) (isNought (orientOf l (q .a) (q .c) (q .d))) (isNought (orientOf l (q .a) (q .b) (q .d))) (isNought (orientOf l (q .a) (q .b) (q .c))) h in
@@ -173,6 +187,5 @@ made l (from4 q h) =
       rest = record { shot = q .b; sign = opposite (orientOf l (q .a) (q .c) (q .d)) } ∷ record { shot = q .c; sign = orientOf l (q .a) (q .b) (q .d) } ∷ record { shot = q .d; sign = opposite (orientOf l (q .a) (q .b) (q .c)) } ∷ [];
       is = refl;
       signed = (o .0, (turned-signed (orientOf l (q .a) (q .c) (q .d)) (o .1), (o .2, (turned-signed (orientOf l (q .a) (q .b) (q .c)) (o .3), tt))));
-      rising = (omega arith, (q .ab, (q .bc, (q .cd, tt))));
-      lower = (let i = q .ab in let j = q .bc in let k = q .cd in let m = q .dn in omega arith, (let j = q .bc in let k = q .cd in let m = q .dn in omega arith, (let k = q .cd in let m = q .dn in omega arith, (q .dn, tt))));
+      within = four-within q;
     }

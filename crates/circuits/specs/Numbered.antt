@@ -4,16 +4,22 @@
 --   four l a b c d     the circuit of four shots, split by sign; none where three of them are on a line
 --   threes l, fours l  those of all a < b < c, of all a < b < c < d
 --   circuitsOf l       the circuits of the patch in the order of their numbers
+--   shotsIn n z        the shots of a circuit, those below n, in increasing order
+--   Before s t         fewer shots, or as many and earlier in lexicographic order
 --
--- Agreement with the published definition: proofs/Agreement. Source: document 01, "Circuits".
-use mathlib.Core.Bool.{Bool, true, false, cond, _||_}
+-- Agreement with the published definition: proofs/Agreement; that the numbers follow the order: proofs/Signs. Source: document 01, "Circuits".
+use mathlib.Core.Path.{_≡_}
+use mathlib.Core.Logic.{_⊎_}
+use mathlib.Core.Bool.{not, Bool, true, false, cond, _||_}
 use mathlib.Core.List.{List, [], _∷_, _++_}
-use Prim.Native.Nat.{ℕ, _+_}
+use Prim.Native.Nat.{ℕ, _+_, _<_}
+use lib.ListN.{length}
 use lib.IntN.{ℤ}
-use Rattle.algebra.specs.Loops.{over}
+use Rattle.algebra.specs.Loops.{picks, over}
+use Rattle.algebra.specs.Sets.{Lex}
 use Rattle.algebra.specs.Sign.{Sign, minus, plus, opposite, isNought}
 use Rattle.shots.specs.Patch.{countOf, orientOf, betweenOf}
-use Rattle.circuits.specs.Sides.{Circuit, Term, split}
+use Rattle.circuits.specs.Sides.{Circuit, Term, split, signIn}
 
 -- an end is plus, the middle one minus
 abbrev pub endSign : Bool → Sign
@@ -69,3 +75,9 @@ fours l = over (foursFrom l) 0 (countOf l)
 
 unfoldable pub circuitsOf : List ℤ → List Circuit
 circuitsOf l = threes l ++ fours l
+
+unfoldable pub shotsIn : ℕ → Circuit → List ℕ
+shotsIn n z = picks n (λ i. not (isNought (signIn z i)))
+
+abbrev pub Before : List ℕ → List ℕ → Type 0
+Before s t = (length s < length t) ⊎ ((length s ≡ length t) × Lex s t)

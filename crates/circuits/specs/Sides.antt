@@ -13,10 +13,10 @@
 --   signIn z i      the sign of shot i in the circuit: plus on its plus side, minus on its minus side, else nought
 --
 -- Source: document 01, "Circuits".
-use mathlib.Core.Bool.{Bool, false, cond, _||_}
+use mathlib.Core.Bool.{Bool, cond}
 use mathlib.Core.List.{List, [], _∷_}
 use Prim.Native.Nat.{ℕ, _+_, _^_, _<_}
-use lib.Dec.{eqb}
+use Rattle.algebra.specs.Sets.{isOn}
 use Rattle.algebra.specs.Sign.{Sign, minus, nought, plus, opposite, sameSign}
 use Rattle.circuits.specs.declared.Sides.{Sides}
 
@@ -57,10 +57,6 @@ sides4 a b c d p q r = joined (sides3 a b c p q) d r
 
 abbrev pub Below : Sides → ℕ → Type 0
 Below z i = (z .plus < 2 ^ i) × (z .minus < 2 ^ i)
-
-unfoldable pub isOn : ℕ → List ℕ → Bool
-isOn i [] = false
-isOn i (j ∷ s) = eqb i j || isOn i s
 
 unfoldable pub signIn : Circuit → ℕ → Sign
 signIn z i = cond (isOn i (z .plus)) plus (cond (isOn i (z .minus)) minus nought)

@@ -4,9 +4,9 @@
 --   circuitsMost    that number for the largest patch
 --   maskBits        a side is held in so many bits, one for each shot
 use mathlib.Core.List.{List, [], _∷_, _++_}
-use Prim.Native.Nat.{ℕ, _+_}
+use Prim.Native.Nat.{ℕ}
 use lib.ListN.{length}
-use Rattle.algebra.specs.Loops.{over}
+use Rattle.algebra.specs.Sets.{nest}
 
 abbrev pub circuitsMost : ℕ
 circuitsMost = 330
@@ -14,12 +14,9 @@ circuitsMost = 330
 abbrev pub maskBits : ℕ
 maskBits = 16
 
--- the increasing lists of three, and of four, of the numbers below n, in lexicographic order
-unfoldable pub threesOf : ℕ → List (List ℕ)
-threesOf n = over (λ a. over (λ b. over (λ c. (a ∷ b ∷ c ∷ []) ∷ []) (b + 1) n) (a + 1) n) 0 n
-
-unfoldable pub foursOf : ℕ → List (List ℕ)
-foursOf n = over (λ a. over (λ b. over (λ c. over (λ d. (a ∷ b ∷ c ∷ d ∷ []) ∷ []) (c + 1) n) (b + 1) n) (a + 1) n) 0 n
+-- the increasing lists of k of the numbers below n, in lexicographic order
+abbrev pub setsOf : ℕ → ℕ → List (List ℕ)
+setsOf k n = nest k (λ s. s ∷ []) 0 n
 
 unfoldable pub candidates : ℕ → ℕ
-candidates n = length (threesOf n ++ foursOf n)
+candidates n = length (setsOf 3 n ++ setsOf 4 n)

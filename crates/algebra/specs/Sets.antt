@@ -1,0 +1,32 @@
+-- Increasing lists of numbers as sets, their lexicographic order, and nested loops over them.
+--
+--   isOn i s        i is in s, as a test
+--   Within a s n    s is increasing, and its numbers are from a to n - 1
+--   Lex s t         s comes before t in lexicographic order, for lists of one length
+--   nest k f a n    f of each increasing list of k numbers from a to n - 1, in lexicographic order, joined: k loops, one in the other
+--
+-- Laws: proofs/SetLaws.
+use mathlib.Core.Path.{_≡_}
+use mathlib.Core.Logic.{_⊎_}
+use mathlib.Core.Bool.{Bool, false, _||_}
+use mathlib.Core.List.{List, [], _∷_}
+use Prim.Native.Nat.{ℕ, zero, suc, _+_, _≤_, _<_}
+use lib.Dec.{eqb}
+use Rattle.algebra.specs.Loops.{over}
+
+unfoldable pub isOn : ℕ → List ℕ → Bool
+isOn i [] = false
+isOn i (j ∷ s) = eqb i j || isOn i s
+
+abbrev pub Within : ℕ → List ℕ → ℕ → Type 0
+Within a [] n = Unit {0}
+Within a (i ∷ s) n = (a ≤ i) × (i < n) × Within (i + 1) s n
+
+abbrev pub Lex : List ℕ → List ℕ → Type 0
+Lex [] t = ⊥
+Lex (i ∷ s) [] = ⊥
+Lex (i ∷ s) (j ∷ t) = (i < j) ⊎ ((i ≡ j) × Lex s t)
+
+unfoldable pub nest : {A : Type 0} → ℕ → (List ℕ → List A) → ℕ → ℕ → List A
+nest zero f a n = f []
+nest (suc k) f a n = over (λ i. nest k (λ s. f (i ∷ s)) (i + 1) n) a n
