@@ -9,3 +9,4 @@ pub mod PicksLaws
 pub mod ListLaws
 pub mod OverLaws
 pub mod SetLaws
+pub mod BitLaws

@@ -3,14 +3,16 @@
 --   isOn i s        i is in s, as a test
 --   Within a s n    s is increasing, and its numbers are from a to n - 1
 --   Lex s t         s comes before t in lexicographic order, for lists of one length
+--   maskOf s        2 ^ i for each i of s, summed: the set as a mask
+--   bit x i         bit i of x is set
 --   nest k f a n    f of each increasing list of k numbers from a to n - 1, in lexicographic order, joined: k loops, one in the other
 --
--- Laws: proofs/SetLaws.
+-- Laws: proofs/SetLaws, proofs/BitLaws.
 use mathlib.Core.Path.{_≡_}
 use mathlib.Core.Logic.{_⊎_}
 use mathlib.Core.Bool.{Bool, false, _||_}
 use mathlib.Core.List.{List, [], _∷_}
-use Prim.Native.Nat.{ℕ, zero, suc, _+_, _≤_, _<_}
+use Prim.Native.Nat.{ℕ, zero, suc, _+_, _/_, _%_, _^_, _≤_, _<_}
 use lib.Dec.{eqb}
 use Rattle.algebra.specs.Loops.{over}
 
@@ -26,6 +28,13 @@ abbrev pub Lex : List ℕ → List ℕ → Type 0
 Lex [] t = ⊥
 Lex (i ∷ s) [] = ⊥
 Lex (i ∷ s) (j ∷ t) = (i < j) ⊎ ((i ≡ j) × Lex s t)
+
+unfoldable pub maskOf : List ℕ → ℕ
+maskOf [] = 0
+maskOf (i ∷ s) = 2 ^ i + maskOf s
+
+unfoldable pub bit : ℕ → ℕ → Bool
+bit x i = eqb (x / 2 ^ i % 2) 1
 
 unfoldable pub nest : {A : Type 0} → ℕ → (List ℕ → List A) → ℕ → ℕ → List A
 nest zero f a n = f []

@@ -8,7 +8,8 @@ use Rattle.shots.specs.Coordinates.{xOf, yOf, areaOf}
 use Rattle.shots.specs.Patch.{orientOf, betweenOf}
 use Rattle.shots.specs.Tests.{badCount, farAt, someFar, sameAt, sameBefore, someSame, bentAt, bentOf, bentBefore, someBent}
 use Rattle.shots.specs.Calls.{orientationOf, signAt, cocircuitOf}
-use Rattle.circuits.specs.Sides.{side, split, maskOf}
+use Rattle.circuits.specs.Sides.{side, split}
+use Rattle.algebra.specs.Sets.{maskOf}
 use Rattle.circuits.specs.Numbered.{three, threesWith, threesFrom, threes, four, foursUpon, foursWith, foursFrom, fours, circuitsOf}
 use Rattle.circuits.specs.Calls.{countCallOf, circuitCallOf}
 use Rattle.cases.specs.Table.{Case, replyTo, table}

@@ -13,7 +13,8 @@ use lib.ListN.{length, set, getD, length-append, length-set}
 use lib.Seq.{getD-set-same, getD-set-other}
 use Rattle.algebra.specs.Loops.{over}
 use Rattle.algebra.proofs.OverLaws.{over-turn, over-end}
-use Rattle.circuits.specs.Sides.{Circuit, masks, maskOf}
+use Rattle.circuits.specs.Sides.{Circuit, masks}
+use Rattle.algebra.specs.Sets.{maskOf}
 use Rattle.circuits.specs.Filled.{Filled, filled, put, pour, Fits}
 
 pub pour-append : (f : Filled) (xs ys : List Circuit) → pour f (xs ++ ys) ≡ pour (pour f xs) ys

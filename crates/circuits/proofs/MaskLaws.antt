@@ -14,7 +14,8 @@ use lib.Pow.{pow-pos, pow-mono}
 use Rattle.algebra.specs.Sign.{Sign, minus, nought, plus, opposite, isNought, sameSign}
 use Rattle.circuits.specs.declared.Sides.{Sides}
 use Rattle.circuits.specs.Sizes.{maskBits}
-use Rattle.circuits.specs.Sides.{Term, side, split, maskOf, masks, begun, joined, sides3, Below}
+use Rattle.circuits.specs.Sides.{Term, side, split, masks, begun, joined, sides3, Below}
+use Rattle.algebra.specs.Sets.{maskOf}
 
 pub bit-room : (x i : ℕ) → i < maskBits → x < 2 ^ i → x + 2 ^ i < 2 ^ maskBits
 bit-room x i h k = omega (arith, pow-mono {i = suc i} {j = maskBits} h)

@@ -6,16 +6,19 @@
 --   count-one, circuit-one            two permitted answers are the same
 --   smallest-on-plus                  before each shot of a minus side comes one of the plus side: it holds the smallest number
 --   sides-low                         the masks of a patch of n shots are below 2 ^ n
+--   sides-signs                       bit i of the two masks tells the sign of shot i
 --
 -- That the circuits are the published ones: proofs/Agreement. How many there can be: proofs/Bounds.
 use mathlib.Core.Path.{_≡_, refl}
 use mathlib.Core.Logic.{_↔_}
+use mathlib.Core.Bool.{cond}
 use mathlib.Core.List.{List, [], _∷_, _++_}
 use Prim.Native.Nat.{ℕ, _^_, _<_}
 use lib.ListN.{length}
 use lib.IntN.{ℤ}
+use Rattle.algebra.specs.Sets.{bit}
 use Rattle.algebra.specs.Answer.{Answer, gives, refuses, First, Clear, Decides}
-use Rattle.algebra.specs.Sign.{minus, plus}
+use Rattle.algebra.specs.Sign.{minus, nought, plus}
 use Rattle.algebra.proofs.AnswerLaws.{chain-refuses, chain-gives, one-answer, decides-append, reflects-leb}
 use Rattle.algebra.proofs.ListLaws.{getD-mem}
 use Rattle.shots.specs.Patch.{countOf}
@@ -32,7 +35,7 @@ use Rattle.circuits.specs.declared.Split.{Split}
 use Rattle.circuits.specs.declared.Split.the-variants as S
 use Rattle.circuits.specs.declared.Sides.{Sides}
 use Rattle.circuits.proofs.Sources.{sources, Made, made}
-use Rattle.circuits.proofs.Signs.{minus-after-plus, masks-low}
+use Rattle.circuits.proofs.Signs.{minus-after-plus, masks-low, masks-signs}
 
 -- the case of an answer, from its number or value
 abbrev backCounted : Answer ℕ → Counted
@@ -95,3 +98,7 @@ module _ (l : List ℤ) where
 
   pub sides-low : (z : ℕ) → z < length (circuitsOf l) → (masks (circuitAt l z) .plus < 2 ^ countOf l) × (masks (circuitAt l z) .minus < 2 ^ countOf l)
   sides-low z h = masks-low (countOf l) (circuitAt l z) (made-at z h)
+
+  pub sides-signs : (z : ℕ) → z < length (circuitsOf l) → (i : ℕ)
+      → signIn (circuitAt l z) i ≡ cond (bit (masks (circuitAt l z) .plus) i) plus (cond (bit (masks (circuitAt l z) .minus) i) minus nought)
+  sides-signs z h i = masks-signs (countOf l) (circuitAt l z) (made-at z h) i

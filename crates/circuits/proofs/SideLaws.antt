@@ -8,20 +8,19 @@
 --   match-at         a sign known so is the sign of shot i among the terms
 --   sign-of-split    the sign of a shot in a split list of terms is its sign against that of the first
 --   on-shots         the shots with a sign are the shots of the terms
---   mask-below       a side of shots below n has a mask below 2 ^ n
+--   side-within      a side of increasing shots is increasing
 use mathlib.Core.Path.{_≡_, refl, sym, _∙_, ap}
 use mathlib.Core.Bool.{Bool, true, false, cond, not, _||_, true≢false}
 use mathlib.Core.List.{List, [], _∷_}
-use Prim.Native.Nat.{ℕ, suc, _+_, _^_, _<_, _≤_}
+use Prim.Native.Nat.{ℕ, _+_, _<_, _≤_}
 use native.Mathlib.Omega.{arith}
-use native.Mathlib.Numerals.{add-one}
 use native.Mathlib.Decide.{ℕ-discrete}
 use lib.Dec.{eqb}
-use lib.Pow.{pow-mono}
 use borrow.Author.Tests.{eq-eqb, ne-eqb}
 use Rattle.algebra.specs.Sets.{isOn, Within}
 use Rattle.algebra.specs.Sign.{Sign, minus, nought, plus, opposite, isNought, sameSign}
-use Rattle.circuits.specs.Sides.{Term, side, split, maskOf, signIn}
+use Rattle.circuits.specs.Sides.{Term, side, split, signIn}
+use Rattle.algebra.proofs.SetLaws.{within-early}
 use Rattle.circuits.proofs.MaskLaws.{Signed, turned-signed}
 
 abbrev pub signOn : List Term → ℕ → Sign
@@ -137,19 +136,12 @@ on-shots i (t ∷ ts) s = go (ℕ-discrete i (t .shot)) (on-shots i ts (s .1))
     go (yes e) ih = rw (eq-eqb i (t .shot) e, s .0) refl
     go (no f) ih = rw (ne-eqb i (t .shot) f) ih
 
--- ---- masks
-
-mask-above : (s : Sign) (lo n : ℕ) (ts : List Term) → lo ≤ n → Within lo (shotsOf ts) n → 2 ^ lo + maskOf (side s ts) ≤ 2 ^ n
-unfolding maskOf side
-mask-above s lo n [] h w = omega (arith, pow-mono h)
-mask-above s lo n (t ∷ ts) h w = go (sameSign s (t .sign)) (mask-above s (t .shot + 1) n ts (let k = w .1 in omega arith) (w .2))
+-- a side of increasing shots is increasing
+pub side-within : (s : Sign) (lo n : ℕ) (ts : List Term) → Within lo (shotsOf ts) n → Within lo (side s ts) n
+unfolding side
+side-within s lo n [] w = tt
+side-within s lo n (t ∷ ts) w = go (sameSign s (t .sign)) (side-within s (t .shot + 1) n ts (w .2))
   where
-    next : 2 ^ (t .shot + 1) ≡ 2 ^ suc (t .shot)
-    next = ap (λ (x : ℕ). 2 ^ x) (add-one (t .shot))
-
-    go : (b : Bool) → 2 ^ (t .shot + 1) + maskOf (side s ts) ≤ 2 ^ n → 2 ^ lo + maskOf (cond b (t .shot ∷ side s ts) (side s ts)) ≤ 2 ^ n
-    go true ih = omega (arith, next, pow-mono (w .0))
-    go false ih = omega (arith, next, pow-mono (w .0))
-
-pub mask-below : (s : Sign) (n : ℕ) (ts : List Term) → Within 0 (shotsOf ts) n → maskOf (side s ts) < 2 ^ n
-mask-below s n ts w = omega (arith, mask-above s 0 n ts (omega arith) w)
+    go : (b : Bool) → Within (t .shot + 1) (side s ts) n → Within lo (cond b (t .shot ∷ side s ts) (side s ts)) n
+    go true ih = (w .0, w .1, ih)
+    go false ih = within-early (t .shot + 1) lo n (side s ts) (let k = w .0 in omega arith) ih

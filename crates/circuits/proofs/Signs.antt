@@ -4,6 +4,7 @@
 --   first-is-plus       the first shot of a circuit is on its plus side
 --   minus-after-plus    before each shot of the minus side comes one of the plus side
 --   masks-low           the masks of a circuit of n shots are below 2 ^ n
+--   masks-signs         the sign of shot i is told by bit i of the two masks
 --   shots-in            the shots of a circuit are those of its source
 --   circuits-in-order   fewer shots first, and sets of one size in lexicographic order
 --   numbers-in-order    the same for two numbers
@@ -17,15 +18,16 @@ use native.Mathlib.Decide.{ℕ-discrete, decLt}
 use lib.ListN.{length, getD}
 use lib.IntN.{ℤ}
 use borrow.Author.Tests.{eq-eqb}
-use Rattle.algebra.specs.Sets.{isOn, Within, nest}
-use Rattle.algebra.specs.Sign.{Sign, minus, plus, opposite, isNought}
+use Rattle.algebra.specs.Sets.{isOn, Within, maskOf, bit, nest}
+use Rattle.algebra.specs.Sign.{Sign, minus, nought, plus, opposite, isNought}
 use Rattle.algebra.proofs.SignLaws.{plus-minus, minus-nought}
 use Rattle.algebra.proofs.ListLaws.{Apart, apart-append, apart-at}
+use Rattle.algebra.proofs.BitLaws.{mask-below, bit-mask}
 use Rattle.algebra.proofs.SetLaws.{nest-apart, nest-out, picks-on, picks-same}
 use Rattle.shots.specs.Patch.{countOf, orientOf}
-use Rattle.circuits.specs.Sides.{Circuit, Term, split, maskOf, signIn}
+use Rattle.circuits.specs.Sides.{Circuit, Term, split, signIn}
 use Rattle.circuits.specs.Numbered.{terms3, terms4, someFlat, three, four, circuitsOf, shotsIn, Before}
-use Rattle.circuits.proofs.SideLaws.{signOn, relative, shotsOf, sign-of-split, relative-self, nought-relative, relative-signed, on-shots, early-nought, mask-below}
+use Rattle.circuits.proofs.SideLaws.{signOn, relative, shotsOf, sign-of-split, relative-self, nought-relative, relative-signed, on-shots, early-nought, side-within}
 use Rattle.circuits.proofs.Sources.{threeOf, fourOf, threes-nest, fours-nest, Source, from3, from4, shots, Of, three-out, four-out, Made, made}
 
 -- ---- one circuit
@@ -54,9 +56,17 @@ module _ (n : ℕ) (z : Circuit) (m : Made n z) where
       go (no l) (yes q) = plus-minus (sym first-is-plus ∙ ap (signIn z) (sym q) ∙ e)
       go (no l) (no q) = absurd (before (omega arith))
 
-  pub masks-low : (maskOf (z .plus) < 2 ^ n) × (maskOf (z .minus) < 2 ^ n)
+  pub sides-within : Within 0 (z .plus) n × Within 0 (z .minus) n
   unfolding split
-  masks-low = rw (m .is) (mask-below (m .first .sign) n ts (m .within), mask-below (opposite (m .first .sign)) n ts (m .within))
+  sides-within = rw (m .is) (side-within (m .first .sign) 0 n ts (m .within), side-within (opposite (m .first .sign)) 0 n ts (m .within))
+
+  pub masks-low : (maskOf (z .plus) < 2 ^ n) × (maskOf (z .minus) < 2 ^ n)
+  masks-low = (mask-below n (z .plus) (sides-within .0), mask-below n (z .minus) (sides-within .1))
+
+  -- the signs, read off the masks
+  pub masks-signs : (i : ℕ) → signIn z i ≡ cond (bit (maskOf (z .plus)) i) plus (cond (bit (maskOf (z .minus)) i) minus nought)
+  unfolding signIn
+  masks-signs i = rw (bit-mask i n (z .plus) (sides-within .0), bit-mask i n (z .minus) (sides-within .1)) refl
 
   pub shots-made : shotsIn n z ≡ shotsOf ts
   unfolding shotsIn

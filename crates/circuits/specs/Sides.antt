@@ -4,8 +4,7 @@
 --   Term            a shot with its sign
 --   side s ts       the shots that have the sign s
 --   split ts        the sides of a list of terms: the plus side is the side of its first shot
---   maskOf s        2 ^ i for each shot i of s, summed
---   masks z         the code's form of a circuit
+--   masks z         the code's form of a circuit: each side as a mask, shot i at bit i
 --   begun i         the code's form of a circuit with one shot
 --   joined z i s    with one shot more, on the plus side where s says so
 --   sides3, sides4  three and four shots in order, those behind the first on its side or not
@@ -16,7 +15,7 @@
 use mathlib.Core.Bool.{Bool, cond}
 use mathlib.Core.List.{List, [], _∷_}
 use Prim.Native.Nat.{ℕ, _+_, _^_, _<_}
-use Rattle.algebra.specs.Sets.{isOn}
+use Rattle.algebra.specs.Sets.{isOn, maskOf}
 use Rattle.algebra.specs.Sign.{Sign, minus, nought, plus, opposite, sameSign}
 use Rattle.circuits.specs.declared.Sides.{Sides}
 
@@ -35,10 +34,6 @@ side s (t ∷ ts) = cond (sameSign s (t .sign)) (t .shot ∷ side s ts) (side s 
 unfoldable pub split : List Term → Circuit
 split [] = record { plus = []; minus = [] }
 split (t ∷ ts) = record { plus = side (t .sign) (t ∷ ts); minus = side (opposite (t .sign)) (t ∷ ts) }
-
-unfoldable pub maskOf : List ℕ → ℕ
-maskOf [] = 0
-maskOf (i ∷ s) = 2 ^ i + maskOf s
 
 abbrev pub masks : Circuit → Sides
 masks z = record { plus = maskOf (z .plus); minus = maskOf (z .minus) }
