@@ -50,13 +50,10 @@ or-right : (a b : Bool) → b ≡ true → (a || b) ≡ true
 or-right true b p = refl
 or-right false b p = p
 
-or-no-left : (a b : Bool) → (a || b) ≡ false → a ≡ false
-or-no-left true b p = p
-or-no-left false b p = refl
-
-or-no-right : (a b : Bool) → (a || b) ≡ false → b ≡ false
-or-no-right true b p = cc
-or-no-right false b p = p
+-- neither of two tests holds
+pub or-parts : (a b : Bool) → (a || b) ≡ false → (a ≡ false) × (b ≡ false)
+or-parts true b p = (p, cc)
+or-parts false b p = (refl, p)
 
 module _ (f : ℕ → Bool) where
   pub any-none : any 0 f ≡ false
@@ -71,7 +68,7 @@ module _ (f : ℕ → Bool) where
   pub any-no : (n i : ℕ) → any n f ≡ false → i < n → f i ≡ false
   unfolding any
   any-no zero i p h = absurd (not-suc-le-zero h)
-  any-no (suc n) i p h = ⊎-elim (λ k. any-no n i (or-no-left (any n f) (f n) p) k) (λ e. ap f e ∙ or-no-right (any n f) (f n) p) (last i n h)
+  any-no (suc n) i p h = ⊎-elim (λ k. any-no n i (or-parts (any n f) (f n) p .0) k) (λ e. ap f e ∙ or-parts (any n f) (f n) p .1) (last i n h)
 
   -- one that passes, where `any` says so
   pub any-some : (n : ℕ) → any n f ≡ true → (i : ℕ) × (i < n) × (f i ≡ true)

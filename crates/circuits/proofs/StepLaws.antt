@@ -13,6 +13,7 @@ use lib.IntN.{ℤ, pos}
 use mir.Syntax.{w8}
 use mir.Val.{ofZ}
 use Rattle.algebra.specs.Sign.{Sign, minus, nought, plus, opposite, value, isNought, sameSign, eqZ}
+use Rattle.algebra.proofs.LoopLaws.{or-parts}
 use Rattle.shots.specs.Patch.{orientOf, betweenOf}
 use Rattle.circuits.specs.Sides.{Circuit, split, masks, sides3, sides4}
 use Rattle.circuits.specs.Numbered.{endSign, terms3, terms4, someFlat, three, four}
@@ -103,10 +104,11 @@ same-turned plus plus = refl
 
 -- none of four tests holds
 pub none-of : (p q r s : Bool) → (p || (q || (r || s))) ≡ false → (p ≡ false) × (q ≡ false) × (r ≡ false) × (s ≡ false)
-none-of true q r s e = (cc, cc, cc, cc)
-none-of false true r s e = (cc, cc, cc, cc)
-none-of false false true s e = (cc, cc, cc, cc)
-none-of false false false s e = (refl, refl, refl, e)
+none-of p q r s e =
+    let a = or-parts p (q || (r || s)) e in
+    let b = or-parts q (r || s) (a .1) in
+    let c = or-parts r s (b .1) in
+    (a .0, b .0, c .0, c .1)
 
 module _ (l : List ℤ) (a b c d : ℕ) where
   pub flat-test : {sa sb sc sd : ℤ} → sa ≡ value (orientOf l b c d) → sb ≡ value (orientOf l a c d) → sc ≡ value (orientOf l a b d) → sd ≡ value (orientOf l a b c)

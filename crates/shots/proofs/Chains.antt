@@ -4,8 +4,8 @@
 --   shots-passed      it is accepted, and the chain goes on behind its rules
 --   rule-broken, rule-kept    then one rule more is broken, or kept
 --   all-below         what is known where none of three tests of numbers refused
-use mathlib.Core.Path.{_≡_, refl, sym, _∙_, ap}
-use mathlib.Core.Bool.{Bool, true, false, _||_, true≢false}
+use mathlib.Core.Path.{_≡_, sym, _∙_, ap}
+use mathlib.Core.Bool.{Bool, true, false, _||_}
 use mathlib.Core.List.{List, [], _∷_, _++_}
 use Prim.Native.Nat.{ℕ, _<_}
 use native.Mathlib.Omega.{arith}
@@ -14,6 +14,7 @@ use lib.Dec.{leb}
 use lib.IntN.{ℤ}
 use Rattle.algebra.specs.Answer.{gives, refuses, Rule, chain, Numbered}
 use Rattle.algebra.proofs.AnswerLaws.{chain-broken, chain-kept, chain-stop, chain-after}
+use Rattle.algebra.proofs.LoopLaws.{or-parts}
 use Rattle.shots.specs.Tests.{shotRules, refusalOf}
 
 pub shots-numbered : (l : List ℤ) → Numbered (shotRules l)
@@ -37,12 +38,8 @@ module _ {A : Type 0} (l : List ℤ) (s : Rule) (v : A) {r : ℕ} (e : r ≡ ref
   unfolding chain
   rule-kept t q = ap gives q ∙ chain-kept s [] v (sym p ∙ t) ∙ shots-passed l (s ∷ []) v e h
 
-or-none : (a b c : Bool) → (a || (b || c)) ≡ false → (a ≡ false) × (b ≡ false) × (c ≡ false)
-or-none true b c e = absurd (true≢false e)
-or-none false true c e = absurd (true≢false e)
-or-none false false c e = (refl, refl, e)
-
 pub all-below : (p q r s t u : ℕ) {b : Bool} → b ≡ (leb p q || (leb r s || leb t u)) → b ≡ false → (q < p) × (s < r) × (u < t)
 all-below p q r s t u e h =
-    let n = or-none (leb p q) (leb r s) (leb t u) (sym e ∙ h) in
-    (leb-false p q (n .0), leb-false r s (n .1), leb-false t u (n .2))
+    let m = or-parts (leb p q) (leb r s || leb t u) (sym e ∙ h) in
+    let n = or-parts (leb r s) (leb t u) (m .1) in
+    (leb-false p q (m .0), leb-false r s (n .0), leb-false t u (n .1))
