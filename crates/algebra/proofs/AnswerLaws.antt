@@ -2,21 +2,24 @@
 --
 --   chain-refuses   a chain answers the number n exactly when n's line holds and no earlier one does
 --   chain-gives     it gives its value exactly when no line holds
---   refusal-clear   the number of the first broken rule is 0 where no rule is broken
 --   one-answer      two answers with one reading are one answer
+--   chain-broken, chain-kept, chain-stop, chain-after    what a sequence of tests in the code says of its chain
+--   refusal-keeps   where the number of the first broken rule is 0, the rules are kept
+--   decides-append, first-append    tables joined
 --   reflects-*      tests that decide what is made of statements
+--   is-minus, is-nought, is-plus    the tests of a sign
 use mathlib.Core.Path.{_≡_, refl, sym, _∙_, ap}
 use mathlib.Core.Logic.{_⊎_, inl, inr, _↔_}
 use mathlib.Core.Bool.{Bool, true, false, cond, not, _||_, _&&_, true≢false, false≢true}
 use mathlib.Core.List.{List, [], _∷_, _++_}
-use Prim.Native.Nat.{ℕ, zero, suc, _≤_, _<_}
+use Prim.Native.Nat.{ℕ, _≤_, _<_}
 use native.Mathlib.Omega.{arith}
 use lib.Dec.{ltb, leb, eqb}
 use lib.IntN.{ℤ, pos, negsuc, pos-ne-negsuc}
 use borrow.Author.Tests.{ltb-true, ltb-false, leb-true, leb-false, eqb-true, eqb-false}
 use Rattle.algebra.specs.Answer.{Answer, gives, refuses, Rule, chain, refusal, Numbered, Line, First, Clear, Reflects, holds, fails, Decides}
-use Rattle.algebra.specs.Sign.{signOf, Pos, Neg, isMinus, isNought, isPlus, eqZ}
-use Rattle.algebra.proofs.SignLaws.{pos-zero, pos-np, neg-nn}
+use Rattle.algebra.specs.Sign.{Sign, minus, nought, plus, signOf, Neg, isMinus, isNought, isPlus, eqZ}
+use Rattle.algebra.proofs.SignLaws.{neg-signOf, zero-signOf, signOf-neg, signOf-zero, plus-minus, plus-nought, minus-nought}
 
 -- ---- the two kinds of answer
 
@@ -205,20 +208,25 @@ reflects-eqZ (pos m) (negsuc n) = fails (pos-ne-negsuc m n)
 reflects-eqZ (negsuc m) (pos n) = fails (λ e. pos-ne-negsuc n m (sym e))
 reflects-eqZ (negsuc m) (negsuc n) = reflects-iff (λ e. ap negsuc e, λ e. cc) (reflects-eqb m n)
 
-pub reflects-plus : (z : ℤ) → Reflects (Pos z) (isPlus (signOf z))
-unfolding signOf
-reflects-plus (pos zero) = fails (λ p. pos-zero p refl)
-reflects-plus (pos (suc n)) = holds (record { by = n; is = refl })
-reflects-plus (negsuc n) = fails (λ p. pos-np p (record { by = suc n; is = refl }))
+-- ---- signs
 
-pub reflects-nought : (z : ℤ) → Reflects (z ≡ pos 0) (isNought (signOf z))
-unfolding signOf
-reflects-nought (pos zero) = holds refl
-reflects-nought (pos (suc n)) = fails (λ e. pos-zero (record { by = n; is = refl }) e)
-reflects-nought (negsuc n) = fails (λ e. pos-ne-negsuc 0 n (sym e))
+pub is-minus : (s : Sign) → Reflects (s ≡ minus) (isMinus s)
+is-minus minus = holds refl
+is-minus nought = fails (λ e. minus-nought (sym e))
+is-minus plus = fails (λ e. plus-minus e)
+
+pub is-nought : (s : Sign) → Reflects (s ≡ nought) (isNought s)
+is-nought minus = fails (λ e. minus-nought e)
+is-nought nought = holds refl
+is-nought plus = fails (λ e. plus-nought e)
+
+pub is-plus : (s : Sign) → Reflects (s ≡ plus) (isPlus s)
+is-plus minus = fails (λ e. plus-minus (sym e))
+is-plus nought = fails (λ e. plus-nought (sym e))
+is-plus plus = holds refl
 
 pub reflects-minus : (z : ℤ) → Reflects (Neg z) (isMinus (signOf z))
-unfolding signOf
-reflects-minus (pos zero) = fails (λ p. pos-zero p refl)
-reflects-minus (pos (suc n)) = fails (λ p. neg-nn p (record { by = suc n; is = refl }))
-reflects-minus (negsuc n) = holds (record { by = n; is = refl })
+reflects-minus z = reflects-iff (neg-signOf z, signOf-neg z) (is-minus (signOf z))
+
+pub reflects-nought : (z : ℤ) → Reflects (z ≡ pos 0) (isNought (signOf z))
+reflects-nought z = reflects-iff (zero-signOf z, signOf-zero z) (is-nought (signOf z))

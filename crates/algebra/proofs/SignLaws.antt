@@ -10,12 +10,14 @@
 --   pos-signOf, neg-signOf, zero-signOf     and back
 --   signOf-opposite, opposite-opposite, opposite-nought, nought-opposite     a number and its negative
 --   plus-minus, plus-nought, minus-nought, Sign-discrete                     signs are told apart
+--   opposite-signed, same-self, same-turned, turned-other, value-nought      the tests of signs
 use mathlib.Core.Path.{_≡_, refl, sym, _∙_, ap, ap₂, subst}
+use mathlib.Core.Bool.{true, false, not, true≢false}
 use mathlib.Core.List.{[], _∷_}
 use Prim.Native.Nat.{ℕ, zero, suc, _+_, _*_}
 use native.Mathlib.Omega.{arith}
 use lib.IntN.{ℤ, pos, negsuc, negℤ, _+ℤ_, _*ℤ_, negℤ-negℤ, *ℤ-zero, zero-*ℤ, ℤ-discrete}
-use Rattle.algebra.specs.Sign.{Sign, minus, nought, plus, signOf, opposite, Pos, NN, Neg, NP, NZ, Tri, below, at-nought, above}
+use Rattle.algebra.specs.Sign.{Sign, minus, nought, plus, signOf, opposite, value, isNought, sameSign, eqZ, Pos, NN, Neg, NP, NZ, Tri, below, at-nought, above}
 use Rattle.algebra.proofs.Ring.{cst, var, _⊕_, _⊗_, neg, ring}
 
 pub tri : (z : ℤ) → Tri z
@@ -262,3 +264,45 @@ Sign-discrete nought plus = no (λ e. plus-nought (sym e))
 Sign-discrete plus minus = no plus-minus
 Sign-discrete plus nought = no plus-nought
 Sign-discrete plus plus = yes refl
+
+-- ---- tests of signs
+
+pub opposite-signed : (s : Sign) → isNought (opposite s) ≡ isNought s
+unfolding opposite
+opposite-signed minus = refl
+opposite-signed nought = refl
+opposite-signed plus = refl
+
+pub same-self : (s : Sign) → sameSign s s ≡ true
+same-self minus = refl
+same-self nought = refl
+same-self plus = refl
+
+pub same-turned : (s t : Sign) → sameSign s (opposite t) ≡ sameSign (opposite s) t
+unfolding opposite
+same-turned minus minus = refl
+same-turned minus nought = refl
+same-turned minus plus = refl
+same-turned nought minus = refl
+same-turned nought nought = refl
+same-turned nought plus = refl
+same-turned plus minus = refl
+same-turned plus nought = refl
+same-turned plus plus = refl
+
+-- of two signs that are not nought, one is the other or its opposite
+pub turned-other : (s t : Sign) → isNought s ≡ false → isNought t ≡ false → sameSign (opposite s) t ≡ not (sameSign s t)
+unfolding opposite
+turned-other minus minus h k = refl
+turned-other minus nought h k = absurd (true≢false k)
+turned-other minus plus h k = refl
+turned-other nought t h k = absurd (true≢false h)
+turned-other plus minus h k = refl
+turned-other plus nought h k = absurd (true≢false k)
+turned-other plus plus h k = refl
+
+pub value-nought : (s : Sign) → eqZ (value s) (pos 0) ≡ isNought s
+unfolding value
+value-nought minus = refl
+value-nought nought = refl
+value-nought plus = refl

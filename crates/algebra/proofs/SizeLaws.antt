@@ -4,7 +4,7 @@
 --   sfits-size, size-sfits    a number fits a signed width where its size is small, and the other way round
 --   read-back                 what is read from the bits of a result is the result
 --   eqb-ofZ                   two numbers are the same where their bits are
---   sign-is-*, below-is-minus    the machine's tests of a sign -1, 0, 1, and of a number below 0
+--   signs-same, sign-is-*, below-is-minus    the machine's tests of signs -1, 0, 1, and of a number below 0
 use mathlib.Core.Path.{_≡_, refl, sym, _∙_, subst}
 use mathlib.Core.Bool.{Bool, true, false, cond}
 use Prim.Native.Nat.{ℕ, zero, suc, _+_, _*_, _-_, _^_, _<_, _≤_}
@@ -17,7 +17,7 @@ use lib.Signed.{mag, ltZ}
 use mir.Syntax.{Width, w8}
 use mir.Val.{SFits, hbits, bits, toZ, ofZ}
 use mir.ValLaws.{toZ-ofZ, pow-bits}
-use Rattle.algebra.specs.Sign.{Sign, minus, nought, plus, signOf, value, isMinus, isNought, isPlus, eqZ}
+use Rattle.algebra.specs.Sign.{Sign, minus, nought, plus, signOf, value, isMinus, isNought, isPlus, sameSign, eqZ}
 
 pub natAbs-neg : (z : ℤ) → natAbs (negℤ z) ≡ natAbs z
 natAbs-neg (pos zero) = refl
@@ -80,23 +80,28 @@ eqb-ofZ w (negsuc a) (negsuc b) hx hy =
 
 -- ---- the machine's tests of a sign that a callee has given as -1, 0 or 1
 
+value-same : (s t : Sign) → eqb (ofZ w8 (value t)) (ofZ w8 (value s)) ≡ sameSign s t
+unfolding value
+value-same minus minus = refl
+value-same minus nought = refl
+value-same minus plus = refl
+value-same nought minus = refl
+value-same nought nought = refl
+value-same nought plus = refl
+value-same plus minus = refl
+value-same plus nought = refl
+value-same plus plus = refl
+
+pub signs-same : {x y : ℤ} (s t : Sign) → x ≡ value s → y ≡ value t → eqb (ofZ w8 y) (ofZ w8 x) ≡ sameSign s t
+signs-same s t e f = rw (e, f) (value-same s t)
+
 pub sign-is-plus : (r : ℤ) (s : Sign) → r ≡ value s → eqb (ofZ w8 r) (ofZ w8 (pos 1)) ≡ isPlus s
 unfolding value
-sign-is-plus r minus e = rw e
-sign-is-plus r nought e = rw e
-sign-is-plus r plus e = rw e
+sign-is-plus r s e = signs-same plus s refl e
 
 pub sign-is-nought : (r : ℤ) (s : Sign) → r ≡ value s → eqb (ofZ w8 r) (ofZ w8 (pos 0)) ≡ isNought s
 unfolding value
-sign-is-nought r minus e = rw e
-sign-is-nought r nought e = rw e
-sign-is-nought r plus e = rw e
-
-pub sign-is-minus : (r : ℤ) (s : Sign) → r ≡ value s → eqb (ofZ w8 r) (ofZ w8 (negsuc 0)) ≡ isMinus s
-unfolding value
-sign-is-minus r minus e = rw e
-sign-is-minus r nought e = rw e
-sign-is-minus r plus e = rw e
+sign-is-nought r s e = signs-same nought s refl e
 
 pub below-is-minus : (z : ℤ) → ltZ z (pos 0) ≡ isMinus (signOf z)
 unfolding signOf

@@ -7,7 +7,7 @@
 -- The published side is matroid's `Circuit`, which knows no determinant. Source 001, section 2; document 01, "Circuits".
 use mathlib.Core.Path.{_≡_, refl, sym, _∙_, ap, subst}
 use mathlib.Core.Logic.{_⊎_, inl, inr, ⊎-elim}
-use mathlib.Core.Bool.{true, false, not}
+use mathlib.Core.Bool.{false, not}
 use mathlib.Core.List.{List, [], _∷_}
 use Prim.Native.Nat.{ℕ, _<_}
 use native.Mathlib.Omega.{arith}
@@ -15,7 +15,8 @@ use native.Mathlib.Decide.{decLt}
 use lib.ListN.{length}
 use lib.IntN.{ℤ, pos}
 use Rattle.algebra.specs.Sign.{Sign, minus, nought, plus, signOf, opposite, isMinus, isNought, Pos, Neg, NZ}
-use Rattle.algebra.proofs.SignLaws.{signOf-pos, signOf-neg, signOf-zero, zero-signOf, signOf-opposite, opposite-opposite}
+use Rattle.algebra.proofs.SignLaws.{signOf-pos, signOf-neg, signOf-zero, signOf-opposite, opposite-opposite, opposite-signed}
+use Rattle.algebra.proofs.AnswerLaws.{reflects-yes, reflects-no, reflects-false, reflects-nought}
 use Rattle.algebra.proofs.SetLaws.{lex-same, picks-same}
 use Rattle.algebra.proofs.ListLaws.{getD-mem, mem-getD}
 use Rattle.matroid.specs.Points.{Point, Configuration, turn, dot}
@@ -32,23 +33,10 @@ use Rattle.shots.proofs.Patch.{patch-distinct, patch-differ}
 use Rattle.circuits.specs.Sides.{Circuit, split, signIn}
 use Rattle.circuits.specs.Numbered.{endSign, terms3, terms4, circuitsOf, shotsIn, Before}
 use Rattle.circuits.specs.Calls.{circuitAt}
-use Rattle.circuits.proofs.SideLaws.{signOn, relative, match-at, relative-signed}
+use Rattle.circuits.proofs.SideLaws.{signOn, relative, match-at}
 use Rattle.circuits.proofs.StepLaws.{none-of}
 use Rattle.circuits.proofs.Sources.{Three, Four, Source, from3, from4, OnLine, NoneOnLine, sources, listed, Made, made}
 use Rattle.circuits.proofs.Signs.{sign-in, numbers-in-order}
-
--- ---- tests of a sign, as statements
-
-nought-of : (s : Sign) → isNought s ≡ true → s ≡ nought
-nought-of minus h = cc
-nought-of nought h = refl
-nought-of plus h = cc
-
-not-nought : (s : Sign) → isNought s ≡ false → s ≡ nought → ⊥
-not-nought s h e = clash (sym h ∙ ap isNought e)
-  where
-    clash : false ≡ true → ⊥
-    clash e = let z : _≡_ {A = ℕ} 0 1 = cc in omega arith
 
 -- two vectors with the same signs, or with every sign turned
 abbrev Same : SignVector → SignVector → Type 0
@@ -110,7 +98,7 @@ module _ (l : List ℤ) (ok : refusalOf l ≡ 0) where
 
     bent-nz : (a b c : ℕ) → isNought (orientOf l a b c) ≡ false → NZ (turn (P a) (P b) (P c))
     unfolding orientOf areaOf
-    bent-nz a b c h e = not-nought (signOf (turn (P a) (P b) (P c))) h (signOf-zero _ e)
+    bent-nz a b c h = reflects-no (reflects-nought (turn (P a) (P b) (P c))) h
 
     four-elementary : NoneOnLine l q → Elementary n P (weights4 P (q .a) (q .b) (q .c) (q .d))
     four-elementary h =
@@ -131,7 +119,7 @@ module _ (l : List ℤ) (ok : refusalOf l ≡ 0) where
 
     flat-turn : OnLine l t → turn A B C ≡ pos 0
     unfolding orientOf areaOf
-    flat-turn h = zero-signOf (turn A B C) (nought-of (signOf (turn A B C)) h)
+    flat-turn h = reflects-yes (reflects-nought (turn A B C)) h
 
     three-elementary : OnLine l t → Elementary n P (weights3 P (t .a) (t .b) (t .c))
     three-elementary h = e3 (t .a) (t .b) (t .c) (t .ab) (t .bc) (t .cn) (flat-turn h)
@@ -222,12 +210,7 @@ module _ (l : List ℤ) (ok : refusalOf l ≡ 0) where
 
   nz-bent : (a b c : ℕ) → NZ (turn (P a) (P b) (P c)) → isNought (orientOf l a b c) ≡ false
   unfolding orientOf areaOf
-  nz-bent a b c h = go (signOf (turn (P a) (P b) (P c))) refl
-    where
-      go : (s : Sign) → signOf (turn (P a) (P b) (P c)) ≡ s → isNought s ≡ false
-      go minus e = refl
-      go nought e = absurd (h (zero-signOf _ e))
-      go plus e = refl
+  nz-bent a b c h = reflects-false (reflects-nought (turn (P a) (P b) (P c))) h
 
   circuit-of : {f : ℕ → ℤ} → Elementary n P f → (z : Circuit) × Source l z × Meets z f
   unfolding orientOf areaOf
@@ -272,12 +255,9 @@ pub numbered-once : (l : List ℤ) (z z′ : ℕ) → z < length (circuitsOf l) 
 unfolding shotsIn
 numbered-once l z z′ h h′ a = go (decLt z z′) (decLt z′ z)
   where
-    turned-same : (s : Sign) → isNought (opposite s) ≡ isNought s
-    turned-same s = relative-signed minus s
-
     shots-same : shotsIn (countOf l) (circuitAt l z) ≡ shotsIn (countOf l) (circuitAt l z′)
     shots-same = picks-same (λ i. not (isNought (signIn (circuitAt l z) i))) (λ i. not (isNought (signIn (circuitAt l z′) i))) (countOf l)
-        (λ i k. ap not (⊎-elim (λ x. ap isNought (x i k)) (λ x. ap isNought (x i k) ∙ turned-same (signIn (circuitAt l z′) i)) a))
+        (λ i k. ap not (⊎-elim (λ x. ap isNought (x i k)) (λ x. ap isNought (x i k) ∙ opposite-signed (signIn (circuitAt l z′) i)) a))
 
     never : (s t : List ℕ) → s ≡ t → Before s t → ⊥
     never s t e b = before-same t (subst (λ (x : List ℕ). Before x t) e b)

@@ -5,7 +5,7 @@
 --   circuits-most          so at most 330 circuits
 --   all-fit                arrays of 330 places have room for all
 use mathlib.Core.Path.{_≡_, refl}
-use mathlib.Core.Bool.{Bool, true, false, cond}
+use mathlib.Core.Bool.{Bool, true, false, not}
 use mathlib.Core.List.{List, [], _∷_}
 use Prim.Native.Nat.{ℕ, suc, _+_, _≤_}
 use native.Mathlib.Omega.{arith}
@@ -25,12 +25,13 @@ use Rattle.circuits.specs.Sizes.{circuitsMost, setsOf, candidates}
 use Rattle.circuits.specs.Sides.{Circuit, split}
 use Rattle.circuits.proofs.Sources.{threeOf, fourOf, threes-nest, fours-nest}
 use Rattle.circuits.specs.Filled.{Filled, Fits}
-use Rattle.circuits.specs.Numbered.{terms3, terms4, someFlat, three, four, threes, fours, circuitsOf}
+use Rattle.circuits.specs.Numbered.{oneIf, terms3, terms4, someFlat, three, four, threes, fours, circuitsOf}
 
 -- one circuit at most
-one-or-none : (b : Bool) (z : Circuit) → (length (cond b (z ∷ []) []) ≤ 1) × (length (cond b [] (z ∷ [])) ≤ 1)
-one-or-none true z = (omega arith, omega arith)
-one-or-none false z = (omega arith, omega arith)
+one-or-none : (b : Bool) (z : Circuit) → length (oneIf b z) ≤ 1
+unfolding oneIf
+one-or-none true z = omega arith
+one-or-none false z = omega arith
 
 module _ (l : List ℤ) where
   three-most : (s : List ℕ) → length (threeOf l s) ≤ 1
@@ -38,7 +39,7 @@ module _ (l : List ℤ) where
   three-most [] = omega arith
   three-most (a ∷ []) = omega arith
   three-most (a ∷ b ∷ []) = omega arith
-  three-most (a ∷ b ∷ c ∷ []) = one-or-none (isNought (orientOf l a b c)) (split (terms3 l a b c)) .0
+  three-most (a ∷ b ∷ c ∷ []) = one-or-none (isNought (orientOf l a b c)) (split (terms3 l a b c))
   three-most (a ∷ b ∷ c ∷ d ∷ s) = omega arith
 
   four-most : (s : List ℕ) → length (fourOf l s) ≤ 1
@@ -47,7 +48,7 @@ module _ (l : List ℤ) where
   four-most (a ∷ []) = omega arith
   four-most (a ∷ b ∷ []) = omega arith
   four-most (a ∷ b ∷ c ∷ []) = omega arith
-  four-most (a ∷ b ∷ c ∷ d ∷ []) = one-or-none (someFlat l a b c d) (split (terms4 l a b c d)) .1
+  four-most (a ∷ b ∷ c ∷ d ∷ []) = one-or-none (not (someFlat l a b c d)) (split (terms4 l a b c d))
   four-most (a ∷ b ∷ c ∷ d ∷ e ∷ s) = omega arith
 
   threes-few : length (threes l) ≤ length (setsOf 3 (countOf l))

@@ -2,19 +2,21 @@
 --
 --   bit-room        a side below bit i has room for it
 --   below-begun, below-joined, below-three    the shots so far stay below a larger one
+--   Signed ts       no term's sign is nought
 --   gather z s ts   the terms ts joined to z, those of sign s on its plus side
 --   masks-split     a circuit's masks are its terms gathered one by one
---   side-signs      an end and the middle of three on a line are on one side where both are ends or both the middle
 use mathlib.Core.Path.{_≡_, refl, sym, _∙_, ap}
 use mathlib.Core.Bool.{Bool, true, false, cond, not, true≢false}
 use mathlib.Core.List.{List, [], _∷_}
 use Prim.Native.Nat.{ℕ, suc, _+_, _^_, _<_}
 use native.Mathlib.Omega.{arith}
 use lib.Pow.{pow-pos, pow-mono}
-use Rattle.algebra.specs.Sign.{Sign, minus, nought, plus, opposite, isNought, sameSign}
+use Rattle.algebra.specs.Sign.{Sign, opposite, isNought, sameSign}
+use Rattle.algebra.proofs.SignLaws.{same-self, turned-other}
 use Rattle.circuits.specs.declared.Sides.{Sides}
 use Rattle.circuits.specs.Sizes.{maskBits}
-use Rattle.circuits.specs.Sides.{Term, side, split, masks, begun, joined, sides3, Below}
+use Rattle.circuits.specs.Sides.{Term, side, split, masks}
+use Rattle.circuits.specs.Joined.{begun, joined, sides3, Below}
 use Rattle.algebra.specs.Sets.{maskOf}
 
 pub bit-room : (x i : ℕ) → i < maskBits → x < 2 ^ i → x + 2 ^ i < 2 ^ maskBits
@@ -43,27 +45,6 @@ Signed (t ∷ ts) = (isNought (t .sign) ≡ false) × Signed ts
 
 sides-path : {p p′ m m′ : ℕ} → p ≡ p′ → m ≡ m′ → _≡_ {A = Sides} (record { plus = p; minus = m }) (record { plus = p′; minus = m′ })
 sides-path e f = λ k. record { plus = e k; minus = f k }
-
-pub turned-other : (s t : Sign) → isNought s ≡ false → isNought t ≡ false → sameSign (opposite s) t ≡ not (sameSign s t)
-unfolding opposite
-turned-other minus minus h k = refl
-turned-other minus nought h k = absurd (true≢false k)
-turned-other minus plus h k = refl
-turned-other nought t h k = absurd (true≢false h)
-turned-other plus minus h k = refl
-turned-other plus nought h k = absurd (true≢false k)
-turned-other plus plus h k = refl
-
-pub turned-signed : (s : Sign) → isNought s ≡ false → isNought (opposite s) ≡ false
-unfolding opposite
-turned-signed minus h = refl
-turned-signed nought h = h
-turned-signed plus h = refl
-
-pub same-self : (s : Sign) → sameSign s s ≡ true
-same-self minus = refl
-same-self nought = refl
-same-self plus = refl
 
 gather-is : (z : Sides) (s : Sign) (ts : List Term) → isNought s ≡ false → Signed ts → gather z s ts ≡ record { plus = z .plus + maskOf (side s ts); minus = z .minus + maskOf (side (opposite s) ts) }
 unfolding maskOf side

@@ -21,7 +21,8 @@ use Rattle.algebra.specs.Sets.{isOn, Within}
 use Rattle.algebra.specs.Sign.{Sign, minus, nought, plus, opposite, isNought, sameSign}
 use Rattle.circuits.specs.Sides.{Term, side, split, signIn}
 use Rattle.algebra.proofs.SetLaws.{within-early}
-use Rattle.circuits.proofs.MaskLaws.{Signed, turned-signed}
+use Rattle.algebra.proofs.SignLaws.{opposite-signed}
+use Rattle.circuits.proofs.MaskLaws.{Signed}
 
 abbrev pub signOn : List Term → ℕ → Sign
 signOn [] i = nought
@@ -85,14 +86,11 @@ chosen plus plus h = refl
 pub sign-of-split : (n : ℕ) (t : Term) (ts : List Term) (i : ℕ) → isNought (t .sign) ≡ false → Within 0 (shotsOf (t ∷ ts)) n → signIn (split (t ∷ ts)) i ≡ relative (t .sign) (signOn (t ∷ ts) i)
 unfolding signIn split
 sign-of-split n t ts i h r =
-    rw (on-side (t .sign) 0 n (t ∷ ts) i h r, on-side (opposite (t .sign)) 0 n (t ∷ ts) i (turned-signed (t .sign) h) r) (chosen (t .sign) (signOn (t ∷ ts) i) h)
+    rw (on-side (t .sign) 0 n (t ∷ ts) i h r, on-side (opposite (t .sign)) 0 n (t ∷ ts) i (opposite-signed (t .sign) ∙ h) r) (chosen (t .sign) (signOn (t ∷ ts) i) h)
 
 -- a sign against another one is nought exactly when it is
 pub relative-signed : (s v : Sign) → isNought (relative s v) ≡ isNought v
-unfolding opposite
-relative-signed minus minus = refl
-relative-signed minus nought = refl
-relative-signed minus plus = refl
+relative-signed minus v = opposite-signed v
 relative-signed nought v = refl
 relative-signed plus v = refl
 

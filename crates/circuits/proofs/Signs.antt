@@ -26,7 +26,7 @@ use Rattle.algebra.proofs.BitLaws.{mask-below, bit-mask}
 use Rattle.algebra.proofs.SetLaws.{nest-apart, nest-out, picks-on, picks-same}
 use Rattle.shots.specs.Patch.{countOf, orientOf}
 use Rattle.circuits.specs.Sides.{Circuit, Term, split, signIn}
-use Rattle.circuits.specs.Numbered.{terms3, terms4, someFlat, three, four, circuitsOf, shotsIn, Before}
+use Rattle.circuits.specs.Numbered.{oneIf, terms3, terms4, someFlat, three, four, circuitsOf, shotsIn, Before}
 use Rattle.circuits.proofs.SideLaws.{signOn, relative, shotsOf, sign-of-split, relative-self, nought-relative, relative-signed, on-shots, early-nought, side-within}
 use Rattle.circuits.proofs.Sources.{threeOf, fourOf, threes-nest, fours-nest, Source, from3, from4, shots, Of, three-out, four-out, Made, made}
 
@@ -96,13 +96,10 @@ module _ (l : List ℤ) where
   in-order : (k : ℕ) (f : List ℕ → List Circuit) → ((s : List ℕ) → Apart Earlier (f s)) → ((s : List ℕ) (z : Circuit) → Within 0 s n → List·Memᴰ z (f s) → Of l s z) → Apart Earlier (nest k f 0 n)
   in-order k f p o = nest-apart Earlier k f 0 n (λ s w e. p s) (λ s t w w′ e e′ h x y m m′. earlier s t x y (o s x w m) (o t y w′ m′) (inr (e ∙ sym e′, h)))
 
-  lone : (b : Bool) (z : Circuit) → Apart Earlier (cond b (z ∷ []) [])
+  lone : (b : Bool) (z : Circuit) → Apart Earlier (oneIf b z)
+  unfolding oneIf
   lone true z = (λ y m. absurd (List·Memᴰ·not-nil m), tt)
   lone false z = tt
-
-  lone-not : (b : Bool) (z : Circuit) → Apart Earlier (cond b [] (z ∷ []))
-  lone-not true z = tt
-  lone-not false z = (λ y m. absurd (List·Memᴰ·not-nil m), tt)
 
   three-lone : (s : List ℕ) → Apart Earlier (threeOf l s)
   unfolding three
@@ -118,7 +115,7 @@ module _ (l : List ℤ) where
   four-lone (a ∷ []) = tt
   four-lone (a ∷ b ∷ []) = tt
   four-lone (a ∷ b ∷ c ∷ []) = tt
-  four-lone (a ∷ b ∷ c ∷ d ∷ []) = lone-not (someFlat l a b c d) (split (terms4 l a b c d))
+  four-lone (a ∷ b ∷ c ∷ d ∷ []) = lone (not (someFlat l a b c d)) (split (terms4 l a b c d))
   four-lone (a ∷ b ∷ c ∷ d ∷ e ∷ s) = tt
 
   pub circuits-in-order : Apart Earlier (circuitsOf l)

@@ -6,20 +6,22 @@
 --   Source l z                   how z was made
 --   sources, listed              every numbered circuit has a source; what has a source is numbered
 --   Made n z                     z is split from terms with signs, their shots increasing and below n; `made`: every source makes a circuit so
-use mathlib.Core.Path.{_≡_, refl, sym, subst}
+use mathlib.Core.Path.{_≡_, refl, sym, _∙_, ap, subst}
 use mathlib.Core.Logic.{⊎-elim}
-use mathlib.Core.Bool.{Bool, true, false, cond}
+use mathlib.Core.Bool.{Bool, true, false, not}
 use mathlib.Core.List.{List, [], _∷_, List·Memᴰ, List·Memᴰ·head, List·Memᴰ·not-nil, List·Memᴰ·eq-of-singleton, Memᴰ·append-left, Memᴰ·append-right, List·Memᴰ·append-cases}
 use Prim.Native.Nat.{ℕ, _+_, _<_, _≤_}
 use native.Mathlib.Omega.{arith}
+use borrow.Author.Tests.{not-true}
 use lib.IntN.{ℤ}
 use Rattle.algebra.specs.Sets.{Within, nest}
 use Rattle.algebra.specs.Sign.{opposite, isNought}
 use Rattle.algebra.proofs.SetLaws.{nest-in, nest-out}
+use Rattle.algebra.proofs.SignLaws.{opposite-signed}
 use Rattle.shots.specs.Patch.{countOf, orientOf, betweenOf}
 use Rattle.circuits.specs.Sides.{Circuit, Term, split}
-use Rattle.circuits.specs.Numbered.{endSign, terms3, terms4, someFlat, three, threesWith, threesFrom, threes, four, foursUpon, foursWith, foursFrom, fours, circuitsOf}
-use Rattle.circuits.proofs.MaskLaws.{Signed, turned-signed}
+use Rattle.circuits.specs.Numbered.{oneIf, endSign, terms3, terms4, someFlat, three, threesWith, threesFrom, threes, four, foursUpon, foursWith, foursFrom, fours, circuitsOf}
+use Rattle.circuits.proofs.MaskLaws.{Signed}
 use Rattle.circuits.proofs.SideLaws.{shotsOf}
 use Rattle.circuits.proofs.StepLaws.{end-signed, none-of}
 
@@ -110,13 +112,14 @@ module _ (l : List ℤ) where
   shots (from4 q h) = q .a ∷ q .b ∷ q .c ∷ q .d ∷ []
 
   -- one circuit or none
-  if-so : (b : Bool) (z x : Circuit) → List·Memᴰ x (cond b (z ∷ []) []) → (b ≡ true) × (x ≡ z)
-  if-so true z x m = (refl, List·Memᴰ·eq-of-singleton m)
-  if-so false z x m = absurd (List·Memᴰ·not-nil m)
+  one-out : (b : Bool) (z x : Circuit) → List·Memᴰ x (oneIf b z) → (b ≡ true) × (x ≡ z)
+  unfolding oneIf
+  one-out true z x m = (refl, List·Memᴰ·eq-of-singleton m)
+  one-out false z x m = absurd (List·Memᴰ·not-nil m)
 
-  if-not : (b : Bool) (z x : Circuit) → List·Memᴰ x (cond b [] (z ∷ [])) → (b ≡ false) × (x ≡ z)
-  if-not true z x m = absurd (List·Memᴰ·not-nil m)
-  if-not false z x m = (refl, List·Memᴰ·eq-of-singleton m)
+  one-in : (b : Bool) (z : Circuit) → b ≡ true → List·Memᴰ z (oneIf b z)
+  unfolding oneIf
+  one-in b z h = rw h (List·Memᴰ·head refl)
 
   -- a source of z with the shots s
   abbrev pub Of : List ℕ → Circuit → Type 0
@@ -128,7 +131,7 @@ module _ (l : List ℤ) where
   three-out (a ∷ []) w m = absurd (List·Memᴰ·not-nil m)
   three-out (a ∷ b ∷ []) w m = absurd (List·Memᴰ·not-nil m)
   three-out (a ∷ b ∷ c ∷ []) {z} w m =
-      let r = if-so (isNought (orientOf l a b c)) (split (terms3 l a b c)) z m in
+      let r = one-out (isNought (orientOf l a b c)) (split (terms3 l a b c)) z m in
       subst (Of (a ∷ b ∷ c ∷ [])) (sym (r .1)) (from3 (three-at n a b c w) (r .0), refl)
   three-out (a ∷ b ∷ c ∷ d ∷ s) w m = absurd (List·Memᴰ·not-nil m)
 
@@ -139,8 +142,8 @@ module _ (l : List ℤ) where
   four-out (a ∷ b ∷ []) w m = absurd (List·Memᴰ·not-nil m)
   four-out (a ∷ b ∷ c ∷ []) w m = absurd (List·Memᴰ·not-nil m)
   four-out (a ∷ b ∷ c ∷ d ∷ []) {z} w m =
-      let r = if-not (someFlat l a b c d) (split (terms4 l a b c d)) z m in
-      subst (Of (a ∷ b ∷ c ∷ d ∷ [])) (sym (r .1)) (from4 (four-at n a b c d w) (r .0), refl)
+      let r = one-out (not (someFlat l a b c d)) (split (terms4 l a b c d)) z m in
+      subst (Of (a ∷ b ∷ c ∷ d ∷ [])) (sym (r .1)) (from4 (four-at n a b c d w) (not-true (someFlat l a b c d) (r .0)), refl)
   four-out (a ∷ b ∷ c ∷ d ∷ e ∷ s) w m = absurd (List·Memᴰ·not-nil m)
 
   pub sources : {z : Circuit} → List·Memᴰ z (circuitsOf l) → Source z
@@ -156,11 +159,11 @@ module _ (l : List ℤ) where
   listed (from3 t h) =
       Memᴰ·append-left (fours l)
       (subst (List·Memᴰ (split (terms3 l (t .a) (t .b) (t .c)))) (sym (threes-nest l))
-      (nest-in 3 (threeOf l) 0 n (t .a ∷ t .b ∷ t .c ∷ []) (three-within t) refl (rw h (List·Memᴰ·head refl))))
+      (nest-in 3 (threeOf l) 0 n (t .a ∷ t .b ∷ t .c ∷ []) (three-within t) refl (one-in (isNought (orientOf l (t .a) (t .b) (t .c))) (split (terms3 l (t .a) (t .b) (t .c))) h)))
   listed (from4 q h) =
       Memᴰ·append-right (threes l)
       (subst (List·Memᴰ (split (terms4 l (q .a) (q .b) (q .c) (q .d)))) (sym (fours-nest l))
-      (nest-in 4 (fourOf l) 0 n (q .a ∷ q .b ∷ q .c ∷ q .d ∷ []) (four-within q) refl (rw h (List·Memᴰ·head refl))))
+      (nest-in 4 (fourOf l) 0 n (q .a ∷ q .b ∷ q .c ∷ q .d ∷ []) (four-within q) refl (one-in (not (someFlat l (q .a) (q .b) (q .c) (q .d))) (split (terms4 l (q .a) (q .b) (q .c) (q .d))) (ap not h))))
 
 -- ---- what every circuit is made of
 
@@ -186,6 +189,6 @@ made l (from4 q h) =
       first = record { shot = q .a; sign = orientOf l (q .b) (q .c) (q .d) };
       rest = record { shot = q .b; sign = opposite (orientOf l (q .a) (q .c) (q .d)) } ∷ record { shot = q .c; sign = orientOf l (q .a) (q .b) (q .d) } ∷ record { shot = q .d; sign = opposite (orientOf l (q .a) (q .b) (q .c)) } ∷ [];
       is = refl;
-      signed = (o .0, (turned-signed (orientOf l (q .a) (q .c) (q .d)) (o .1), (o .2, (turned-signed (orientOf l (q .a) (q .b) (q .c)) (o .3), tt))));
+      signed = (o .0, (opposite-signed (orientOf l (q .a) (q .c) (q .d)) ∙ o .1, (o .2, (opposite-signed (orientOf l (q .a) (q .b) (q .c)) ∙ o .3, tt))));
       within = four-within q;
     }

@@ -2,6 +2,7 @@
 --
 --   three l a b c      the circuit of three shots on a line, the two ends against the middle one; none where they are not on a line
 --   four l a b c d     the circuit of four shots, split by sign; none where three of them are on a line
+--   oneIf b z          z alone where b says so, else nothing
 --   threes l, fours l  those of all a < b < c, of all a < b < c < d
 --   circuitsOf l       the circuits of the patch in the order of their numbers
 --   shotsIn n z        the shots of a circuit, those below n, in increasing order
@@ -21,6 +22,10 @@ use Rattle.algebra.specs.Sign.{Sign, minus, plus, opposite, isNought}
 use Rattle.shots.specs.Patch.{countOf, orientOf, betweenOf}
 use Rattle.circuits.specs.Sides.{Circuit, Term, split, signIn}
 
+-- one circuit or none
+unfoldable pub oneIf : Bool → Circuit → List Circuit
+oneIf b z = cond b (z ∷ []) []
+
 -- an end is plus, the middle one minus
 abbrev pub endSign : Bool → Sign
 endSign true = minus
@@ -34,7 +39,7 @@ terms3 l a b c =
     ∷ []
 
 unfoldable pub three : List ℤ → ℕ → ℕ → ℕ → List Circuit
-three l a b c = cond (isNought (orientOf l a b c)) (split (terms3 l a b c) ∷ []) []
+three l a b c = oneIf (isNought (orientOf l a b c)) (split (terms3 l a b c))
 
 abbrev pub terms4 : List ℤ → ℕ → ℕ → ℕ → ℕ → List Term
 terms4 l a b c d =
@@ -49,7 +54,7 @@ abbrev pub someFlat : List ℤ → ℕ → ℕ → ℕ → ℕ → Bool
 someFlat l a b c d = isNought (orientOf l b c d) || (isNought (orientOf l a c d) || (isNought (orientOf l a b d) || isNought (orientOf l a b c)))
 
 unfoldable pub four : List ℤ → ℕ → ℕ → ℕ → ℕ → List Circuit
-four l a b c d = cond (someFlat l a b c d) [] (split (terms4 l a b c d) ∷ [])
+four l a b c d = oneIf (not (someFlat l a b c d)) (split (terms4 l a b c d))
 
 -- the last shot, the last two and so on from the ones that are fixed
 unfoldable pub threesWith : List ℤ → ℕ → ℕ → List Circuit

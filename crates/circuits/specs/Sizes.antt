@@ -1,5 +1,6 @@
 -- The sizes of this room; src/lib.rt has the same as a constant.
 --
+--   setsOf k n      the sets of k of the numbers below n
 --   candidates n    the sets of three and of four of n shots, with nothing known of the shots: as many circuits as there can be
 --   circuitsMost    that number for the largest patch
 --   maskBits        a side is held in so many bits, one for each shot

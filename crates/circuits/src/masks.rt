@@ -2,7 +2,7 @@
 ghost use mathlib.Core.Path.{_≡_};
 ghost use Prim.Native.Nat.{_^_, _<_};
 ghost use Rattle.circuits.specs.Sizes.{maskBits};
-ghost use Rattle.circuits.specs.Sides.{begun, joined, sides3, sides4, Below};
+ghost use Rattle.circuits.specs.Joined.{begun, joined, sides3, sides4, Below};
 use super::Sides;
 
 fn bit(i: usize) -> u16

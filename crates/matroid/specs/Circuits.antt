@@ -7,7 +7,7 @@
 --   against X              every sign turned: (Z⁻, Z⁺)
 --   Crossing n P S T       a circuit with Z⁺ inside S and Z⁻ inside T (source 001, Theorem 2.1, IP)
 --
--- Main theorems: proofs/Elementary (what the circuits of distinct points are), proofs/Crossing.
+-- Main theorems: proofs/Elementary and proofs/Conforming (what the circuits of distinct points are), proofs/Crossing.
 use mathlib.Core.Path.{_≡_}
 use Prim.Native.Nat.{ℕ, _<_}
 use lib.IntN.{ℤ, pos}

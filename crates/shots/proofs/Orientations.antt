@@ -14,10 +14,10 @@ use Prim.Native.Nat.{ℕ, _<_}
 use lib.IntN.{ℤ, pos}
 use Rattle.algebra.specs.Loops.{any}
 use Rattle.algebra.specs.Sign.{Sign, minus, nought, plus, signOf, opposite, isMinus, isPlus}
-use Rattle.algebra.specs.Answer.{Reflects, holds, fails}
-use Rattle.algebra.proofs.AnswerLaws.{reflects-iff, reflects-yes, reflects-true, reflects-minus, reflects-not, reflects-and}
+use Rattle.algebra.specs.Answer.{Reflects}
+use Rattle.algebra.proofs.AnswerLaws.{reflects-iff, reflects-yes, reflects-true, reflects-minus, reflects-not, reflects-and, is-minus, is-plus}
 use Rattle.algebra.proofs.LoopLaws.{reflects-any}
-use Rattle.algebra.proofs.SignLaws.{signOf-zero, zero-signOf, signOf-opposite, plus-minus, plus-nought, minus-nought}
+use Rattle.algebra.proofs.SignLaws.{signOf-zero, zero-signOf, signOf-opposite}
 use Rattle.matroid.specs.Points.{Between, chirotope, dot}
 use Rattle.matroid.proofs.Turns.{turn-is-det3, turn-cycle, turn-swap, turn-swap-first, turn-first, turn-last, turn-ends}
 use Rattle.matroid.proofs.Lines.{between-iff}
@@ -31,16 +31,6 @@ unfolding opposite
 minus-plus minus = refl
 minus-plus nought = refl
 minus-plus plus = refl
-
-is-plus : (s : Sign) → Reflects (s ≡ plus) (isPlus s)
-is-plus minus = fails (λ e. plus-minus (sym e))
-is-plus nought = fails (λ e. plus-nought (sym e))
-is-plus plus = holds refl
-
-is-minus : (s : Sign) → Reflects (s ≡ minus) (isMinus s)
-is-minus minus = holds refl
-is-minus nought = fails (λ e. minus-nought (sym e))
-is-minus plus = fails (λ e. plus-minus e)
 
 module _ (l : List ℤ) where
   module _ (a b c : ℕ) where

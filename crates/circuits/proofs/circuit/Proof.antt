@@ -56,7 +56,7 @@ unfolding circuitCallOf
 returns-2 c =
     let t = c .before .before .before in
     rule-broken (l t) (circuitRule (l t) (z t)) _ (run t .before .refusal .ensures) (run t .if1 .left)
-    (ap (λ (n : ℕ). leb n (z t)) (counted t)) (le-leb (t .all .result) (z t) (c .if2 .taken))
+    (ap (λ (n : ℕ). leb n (z t)) (counted t)) (le-leb (t .all .result) (z t) (omega (arith, c .if2 .taken)))
 
 low : (c : tie.Else2) → z (c .before .before .before) < circuitsMost
 low c = let t = c .before .before .before in omega (arith, counted t, few t, c .if2 .left)

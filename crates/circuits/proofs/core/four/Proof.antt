@@ -1,11 +1,12 @@
 -- `circuits::core::four` meets its contract.
 use mathlib.Core.Path.{_≡_, sym, _∙_, ap}
+use mathlib.Core.Bool.{not}
 use borrow.Author.Needs.{needs}
 use mir.Syntax.{w8}
 use Rattle.algebra.proofs.SizeLaws.{read-back}
 use Rattle.circuits.specs.Filled.{Filled, filled, put}
-use Rattle.circuits.specs.Numbered.{someFlat}
-use Rattle.circuits.proofs.StepLaws.{flat-test, four-flat, four-room, four-bent, four-sides}
+use Rattle.circuits.specs.Numbered.{someFlat, four}
+use Rattle.circuits.proofs.StepLaws.{none-added, one-room, one-added, flat-test, four-sides}
 use Rattle.circuits.proofs.core.four.Statement.{statement}
 use Rattle.circuits.proofs.core.four.Tie as tie
 
@@ -40,16 +41,18 @@ some-zero-requires : tie.Need-some-zero-requires
 some-zero-requires c κs = search needs
 
 returns : tie.Need-returns
-returns c = four-flat _ _ _ _ _ _ (sym (tested (c .before)) ∙ c .if1 .taken)
+unfolding four
+returns c = none-added _ _ _ (ap not (sym (tested (c .before)) ∙ c .if1 .taken))
 
 of-four-requires : tie.Need-of-four-requires
 of-four-requires c κs = search needs
 
 put-requires : tie.Need-put-requires
+unfolding four
 put-requires c κs =
     let e = c .before .before .before in
     let s = e .before .before .before .before .before .before .before .before in
-    four-room _ _ _ _ _ (lent s) (sym (tested (e .before)) ∙ e .if1 .left) (s .pre .6)
+    one-room _ _ (lent s) (ap not (sym (tested (e .before)) ∙ e .if1 .left)) (s .pre .6)
 
 same-length : tie.Need-same-length
 same-length c = search needs
@@ -58,6 +61,7 @@ same-length-2 : tie.Need-same-length-2
 same-length-2 c = search needs
 
 returns-2 : tie.Need-returns-2
+unfolding four
 returns-2 c =
     let p = c .before .before .before .before in
     let t = p .before .before .before in
@@ -67,7 +71,7 @@ returns-2 c =
     p .put .ensures
     ∙ ap (put (lent (q .before .before .before .before .before .before)))
     (t .of-four .ensures ∙ four-sides _ _ _ _ _ bent (q .before .before .before .sign .ensures) (q .before .before .sign2 .ensures) (q .before .sign3 .ensures) (q .sign4 .ensures))
-    ∙ four-bent _ _ _ _ _ _ bent
+    ∙ one-added _ _ _ (ap not bent)
 
 pub four-spec : {M : Type 1} → statement M
 four-spec =

@@ -6,8 +6,9 @@ use borrow.Author.Tests.{eq-eqb, ne-eqb}
 use Rattle.algebra.specs.Sign.{isNought}
 use Rattle.algebra.proofs.SizeLaws.{sign-is-nought}
 use Rattle.shots.specs.Patch.{orientOf}
+use Rattle.circuits.specs.Numbered.{three}
 use Rattle.circuits.specs.Filled.{Filled, filled, put}
-use Rattle.circuits.proofs.StepLaws.{three-bent, three-room, three-flat, three-sides}
+use Rattle.circuits.proofs.StepLaws.{none-added, one-room, one-added, three-sides}
 use Rattle.circuits.proofs.core.three.Statement.{statement}
 use Rattle.circuits.proofs.core.three.Tie as tie
 
@@ -23,8 +24,9 @@ sign-requires : tie.Need-sign-requires
 sign-requires c κs = search needs
 
 returns : tie.Need-returns
+unfolding three
 returns c =
-    three-bent _ _ _ _ _ (sym (sign-is-nought (c .before .sign .result) _ (c .before .sign .ensures)) ∙ ne-eqb _ _ (c .if1 .taken))
+    none-added _ _ _ (sym (sign-is-nought (c .before .sign .result) _ (c .before .sign .ensures)) ∙ ne-eqb _ _ (c .if1 .taken))
 
 between-requires : tie.Need-between-requires
 between-requires c κs = search needs
@@ -39,10 +41,11 @@ of-three-requires : tie.Need-of-three-requires
 of-three-requires c κs = search needs
 
 put-requires : tie.Need-put-requires
+unfolding three
 put-requires c κs =
     let e = c .before .before .before .before .before .before in
     let s = e .before .before .before .before in
-    three-room _ _ _ _ (lent s) (flat e) (s .pre .5)
+    one-room _ _ (lent s) (flat e) (s .pre .5)
 
 same-length : tie.Need-same-length
 same-length c = search needs
@@ -51,13 +54,14 @@ same-length-2 : tie.Need-same-length-2
 same-length-2 c = search needs
 
 returns-2 : tie.Need-returns-2
+unfolding three
 returns-2 c =
     let p = c .before .before .before .before in
     let t = p .before .before .before in
     let m = t .before in
     p .put .ensures
     ∙ ap (put (lent (m .before .before .before .before .before .before .before))) (t .of-three .ensures ∙ three-sides _ _ _ _ (m .before .before .between .ensures) (m .before .between2 .ensures) (m .between3 .ensures))
-    ∙ three-flat _ _ _ _ _ (flat (m .before .before .before))
+    ∙ one-added _ _ _ (flat (m .before .before .before))
 
 pub three-spec : {M : Type 1} → statement M
 three-spec =

@@ -1,6 +1,6 @@
 -- `circuits::masks::of_three` meets its contract.
 use borrow.Author.Needs.{needs}
-use Rattle.circuits.specs.Sides.{begun}
+use Rattle.circuits.specs.Joined.{begun}
 use Rattle.circuits.proofs.MaskLaws.{below-begun, below-joined}
 use Rattle.circuits.proofs.masks.of_three.Statement.{statement}
 use Rattle.circuits.proofs.masks.of_three.Tie as tie
