@@ -8,8 +8,8 @@
 --   square-nn, square-pos, squares-zero
 --   signOf-pos, signOf-neg, signOf-zero     the sign as a value, from the statement
 --   pos-signOf, neg-signOf, zero-signOf     and back
---   signOf-opposite, opposite-opposite, opposite-nought, nought-opposite     a number and its negative
---   plus-minus, plus-nought, minus-nought, Sign-discrete                     signs are told apart
+--   signOf-opposite, opposite-opposite, nought-opposite     a number and its negative
+--   plus-minus, plus-nought, minus-nought     signs are told apart
 --   opposite-signed, same-self, same-turned, turned-other, value-nought      the tests of signs
 use mathlib.Core.Path.{_≡_, refl, sym, _∙_, ap, ap₂, subst}
 use mathlib.Core.Bool.{true, false, not, true≢false}
@@ -250,20 +250,6 @@ opposite-opposite plus = refl
 pub nought-opposite : (s : Sign) → s ≡ nought → opposite s ≡ nought
 unfolding opposite
 nought-opposite s e = ap opposite e
-
-pub opposite-nought : (s : Sign) → opposite s ≡ nought → s ≡ nought
-opposite-nought s e = sym (opposite-opposite s) ∙ nought-opposite (opposite s) e
-
-pub Sign-discrete : (s t : Sign) → Dec (s ≡ t)
-Sign-discrete minus minus = yes refl
-Sign-discrete minus nought = no minus-nought
-Sign-discrete minus plus = no (λ e. plus-minus (sym e))
-Sign-discrete nought minus = no (λ e. minus-nought (sym e))
-Sign-discrete nought nought = yes refl
-Sign-discrete nought plus = no (λ e. plus-nought (sym e))
-Sign-discrete plus minus = no plus-minus
-Sign-discrete plus nought = no plus-nought
-Sign-discrete plus plus = yes refl
 
 -- ---- tests of signs
 

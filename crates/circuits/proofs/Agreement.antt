@@ -1,4 +1,4 @@
--- The numbered circuits are the published ones (D2b). For an accepted patch with its shots as points:
+-- The numbered circuits are the published ones. For an accepted patch with its shots as points:
 --
 --   circuit-published    each numbered circuit is a signed circuit: the signs of an affine dependency whose support holds no smaller one
 --   published-numbered   each signed circuit, or the one with every sign turned, has a number
