@@ -2,10 +2,11 @@
 --
 --   chain-refuses   a chain answers the number n exactly when n's line holds and no earlier one does
 --   chain-gives     it gives its value exactly when no line holds
+--   chain-refuses-upon, chain-gives-upon    the same where its second part is decided only if no line of the first part holds
 --   one-answer      two answers with one reading are one answer
 --   chain-broken, chain-kept, chain-stop, chain-after    what a sequence of tests in the code says of its chain
 --   refusal-keeps   where the number of the first broken rule is 0, the rules are kept
---   decides-append, first-append    tables joined
+--   decides-append, first-append, clear-append    tables joined
 --   reflects-*      tests that decide what is made of statements
 --   is-minus, is-nought, is-plus    the tests of a sign
 use mathlib.Core.Path.{_≡_, refl, sym, _∙_, ap}
@@ -42,35 +43,59 @@ one-answer read back undone {x} {r} {r′} p q = sym (undone r) ∙ ap back (p �
 -- ---- chains
 
 module _ {A : Type 0} where
+  -- one rule more, decided; what follows it matters only where it is kept
+  refuses-step : (r : Rule) (rs : List Rule) (l : Line) (ls : List Line) (v : A) (n : ℕ) → r .number ≡ l .number → Reflects (l .when) (r .broken)
+      → ((l .when → ⊥) → (chain rs v ≡ refuses n) ↔ First n ls) → (chain (r ∷ rs) v ≡ refuses n) ↔ First n (l ∷ ls)
+  unfolding chain
+  refuses-step r rs l ls v n q d ih = go (r .broken) d
+    where
+      go : (b : Bool) → Reflects (l .when) b → (cond b (refuses (r .number)) (chain rs v) ≡ refuses n) ↔ First n (l ∷ ls)
+      go true (holds h) = (λ e. inl (h, sym (refuses-one e) ∙ q), out)
+        where
+          out : First n (l ∷ ls) → _≡_ {A = Answer A} (refuses (r .number)) (refuses n)
+          out (inl p) = ap refuses (q ∙ sym (p .1))
+          out (inr p) = absurd (p .0 h)
+      go false (fails h) = (λ e. inr (h, ih h .0 e), out)
+        where
+          out : First n (l ∷ ls) → chain rs v ≡ refuses n
+          out (inl p) = absurd (h (p .0))
+          out (inr p) = ih h .1 (p .1)
+
+  gives-step : (r : Rule) (rs : List Rule) (l : Line) (ls : List Line) (v w : A) → Reflects (l .when) (r .broken)
+      → ((l .when → ⊥) → (chain rs v ≡ gives w) ↔ (Clear ls × (v ≡ w))) → (chain (r ∷ rs) v ≡ gives w) ↔ (Clear (l ∷ ls) × (v ≡ w))
+  unfolding chain
+  gives-step r rs l ls v w d ih = go (r .broken) d
+    where
+      go : (b : Bool) → Reflects (l .when) b → (cond b (refuses (r .number)) (chain rs v) ≡ gives w) ↔ (Clear (l ∷ ls) × (v ≡ w))
+      go true (holds h) = (λ e. given-refused (sym e), λ p. absurd (p .0 .0 h))
+      go false (fails h) = (λ e. let r = ih h .0 e in ((h, r .0), r .1), λ p. ih h .1 (p .0 .1, p .1))
+
   pub chain-refuses : (rs : List Rule) (ls : List Line) (v : A) (n : ℕ) → Decides rs ls → (chain rs v ≡ refuses n) ↔ First n ls
   unfolding chain
   chain-refuses [] [] v n d = (λ e. given-refused e, λ f. absurd f)
   chain-refuses [] (l ∷ ls) v n d = absurd d
   chain-refuses (r ∷ rs) [] v n d = absurd d
-  chain-refuses (r ∷ rs) (l ∷ ls) v n d = go (r .broken) (d .1) (chain-refuses rs ls v n (d .2))
-    where
-      go : (b : Bool) → Reflects (l .when) b → (chain rs v ≡ refuses n) ↔ First n ls → (cond b (refuses (r .number)) (chain rs v) ≡ refuses n) ↔ First n (l ∷ ls)
-      go true (holds h) ih = (λ e. inl (h, sym (refuses-one e) ∙ d .0), out)
-        where
-          out : First n (l ∷ ls) → _≡_ {A = Answer A} (refuses (r .number)) (refuses n)
-          out (inl p) = ap refuses (d .0 ∙ sym (p .1))
-          out (inr p) = absurd (p .0 h)
-      go false (fails h) ih = (λ e. inr (h, ih .0 e), out)
-        where
-          out : First n (l ∷ ls) → chain rs v ≡ refuses n
-          out (inl p) = absurd (h (p .0))
-          out (inr p) = ih .1 (p .1)
+  chain-refuses (r ∷ rs) (l ∷ ls) v n d = refuses-step r rs l ls v n (d .0) (d .1) (λ h. chain-refuses rs ls v n (d .2))
 
   pub chain-gives : (rs : List Rule) (ls : List Line) (v w : A) → Decides rs ls → (chain rs v ≡ gives w) ↔ (Clear ls × (v ≡ w))
   unfolding chain
   chain-gives [] [] v w d = (λ e. (tt, gives-one e), λ p. ap gives (p .1))
   chain-gives [] (l ∷ ls) v w d = absurd d
   chain-gives (r ∷ rs) [] v w d = absurd d
-  chain-gives (r ∷ rs) (l ∷ ls) v w d = go (r .broken) (d .1) (chain-gives rs ls v w (d .2))
-    where
-      go : (b : Bool) → Reflects (l .when) b → (chain rs v ≡ gives w) ↔ (Clear ls × (v ≡ w)) → (cond b (refuses (r .number)) (chain rs v) ≡ gives w) ↔ (Clear (l ∷ ls) × (v ≡ w))
-      go true (holds h) ih = (λ e. given-refused (sym e), λ p. absurd (p .0 .0 h))
-      go false (fails h) ih = (λ e. let r = ih .0 e in ((h, r .0), r .1), λ p. ih .1 (p .0 .1, p .1))
+  chain-gives (r ∷ rs) (l ∷ ls) v w d = gives-step r rs l ls v w (d .1) (λ h. chain-gives rs ls v w (d .2))
+
+  -- a second part that is decided where no line of the first holds
+  pub chain-refuses-upon : (rs ss : List Rule) (ks ls : List Line) (v : A) (n : ℕ) → Decides rs ks → (Clear ks → Decides ss ls) → (chain (rs ++ ss) v ≡ refuses n) ↔ First n (ks ++ ls)
+  chain-refuses-upon [] ss [] ls v n d e = chain-refuses ss ls v n (e tt)
+  chain-refuses-upon [] ss (k ∷ ks) ls v n d e = absurd d
+  chain-refuses-upon (r ∷ rs) ss [] ls v n d e = absurd d
+  chain-refuses-upon (r ∷ rs) ss (k ∷ ks) ls v n d e = refuses-step r (rs ++ ss) k (ks ++ ls) v n (d .0) (d .1) (λ h. chain-refuses-upon rs ss ks ls v n (d .2) (λ c. e (h, c)))
+
+  pub chain-gives-upon : (rs ss : List Rule) (ks ls : List Line) (v w : A) → Decides rs ks → (Clear ks → Decides ss ls) → (chain (rs ++ ss) v ≡ gives w) ↔ (Clear (ks ++ ls) × (v ≡ w))
+  chain-gives-upon [] ss [] ls v w d e = chain-gives ss ls v w (e tt)
+  chain-gives-upon [] ss (k ∷ ks) ls v w d e = absurd d
+  chain-gives-upon (r ∷ rs) ss [] ls v w d e = absurd d
+  chain-gives-upon (r ∷ rs) ss (k ∷ ks) ls v w d e = gives-step r (rs ++ ss) k (ks ++ ls) v w (d .1) (λ h. chain-gives-upon rs ss ks ls v w (d .2) (λ c. e (h, c)))
 
   -- what a sequence of tests in the code has shown, and what that says of the chain
   pub chain-broken : (r : Rule) (rs : List Rule) (v : A) → r .broken ≡ true → refuses (r .number) ≡ chain (r ∷ rs) v
@@ -137,6 +162,10 @@ first-append n (k ∷ ks) ls = (into (first-append n ks ls .0), out (first-appen
     out ih (inl (inr p)) = inr (p .0, ih (inl (p .1)))
     out ih (inr p) = inr (p .0 .0, ih (inr (p .0 .1, p .1)))
 
+pub clear-append : (ks ls : List Line) → Clear (ks ++ ls) ↔ (Clear ks × Clear ls)
+clear-append [] ls = (λ c. (tt, c), λ c. c .1)
+clear-append (k ∷ ks) ls = let ih = clear-append ks ls in (λ c. let r = ih .0 (c .1) in ((c .0, r .0), r .1), λ c. (c .0 .0, ih .1 (c .0 .1, c .1)))
+
 pub decides-append : (rs ss : List Rule) (ks ls : List Line) → Decides rs ks → Decides ss ls → Decides (rs ++ ss) (ks ++ ls)
 decides-append [] ss [] ls d e = e
 decides-append [] ss (k ∷ ks) ls d e = absurd d
@@ -164,6 +193,11 @@ reflects-false (fails h) k = refl
 pub reflects-by : {A : Type 0} (b : Bool) → (b ≡ true → A) → (b ≡ false → A → ⊥) → Reflects A b
 reflects-by true f g = holds (f refl)
 reflects-by false f g = fails (g refl)
+
+-- two tests of one statement
+pub reflects-agree : {A : Type 0} {a b : Bool} → Reflects A a → Reflects A b → a ≡ b
+reflects-agree (holds h) r = sym (reflects-true r h)
+reflects-agree (fails h) r = sym (reflects-false r h)
 
 pub reflects-iff : {A B : Type 0} {b : Bool} → A ↔ B → Reflects A b → Reflects B b
 reflects-iff e (holds h) = holds (e .0 h)

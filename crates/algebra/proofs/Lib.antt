@@ -10,3 +10,6 @@ pub mod ListLaws
 pub mod OverLaws
 pub mod SetLaws
 pub mod BitLaws
+pub mod BitOps
+pub mod SetTests
+pub mod WordLaws

@@ -1,29 +1,36 @@
--- What a loop wants of `any`, `first`, `fold`, `tally` and `tabulate`: where it begins, one turn more, where it ends.
+-- What a loop wants of `any`, `every`, `first`, `fold`, `tally` and `tabulate`: where it begins, one turn more, where it ends.
 --
 --   any-none, go-on, found, none             a loop that looks for one that passes
+--   every-none, every-on, every-broken, every-end   a loop that looks for one that does not pass
 --   first-none, first-on, first-found, first-end    a loop that looks for the first that passes
 --   fold-none, fold-more, fold-end           a loop that builds a value
 --   tally-none, tally-more, tally-end        a loop that counts
 --   length-tabulate, getD-tabulate           how long a table is, and what stands at a place of it
+--   tabulate-same                            tables of functions that agree below the bound
 --   fill-none, fill-more, fill-end           a loop that fills an array with a table, from l₀ on
---   reflects-any                             `any` decides that some number below the bound has the property
+--   reflects-any, reflects-every             `any` and `every` decide that some number below the bound, that each of them has the property
+--   reflects-lone                            exactly one number below the bound passes
+--   any-same, every-same                     tests that agree below the bound
+--   any-last, any-add                        a bound in two parts
+--   every-not                                none passes where every one does not
+--   reflects-anyOf                           `anyOf` decides that some member of a list has the property
 --   first-passes, first-least                what `first` finds
 use mathlib.Core.Path.{_≡_, refl, sym, _∙_, ap, subst}
-use mathlib.Core.Bool.{Bool, true, false, cond, _||_}
+use mathlib.Core.Bool.{Bool, true, false, cond, not, _||_, _&&_, true≢false, or-false, or-assoc}
 use mathlib.Core.Logic.{_⊎_, inl, inr, ⊎-elim}
-use mathlib.Core.List.{List, [], _∷_, _++_, append-assoc, append-nil}
+use mathlib.Core.List.{List, [], _∷_, _++_, append-assoc, append-nil, List·Memᴰ, List·Memᴰ·head, List·Memᴰ·tail, List·Memᴰ·cases-cons, List·Memᴰ·not-nil}
 use Prim.Native.Nat.{ℕ, zero, suc, _+_, _*_, _<_, _≤_}
 use native.Mathlib.Omega.{arith}
 use native.Mathlib.Numerals.{add-one}
 use native.Mathlib.Decide.{decLt}
 use native.Mathlib.Nat.{not-suc-le-zero}
-use lib.Dec.{ltb}
+use lib.Dec.{ltb, eqb}
 use lib.ListN.{length, getD, drop, set, length-append, drop-of-length-le, List·getD-append}
 use lib.Seq.{drop-cons, set-at, getD-at}
-use borrow.Author.Tests.{lt-ltb, le-ltb}
-use Rattle.algebra.specs.Answer.{Reflects}
-use Rattle.algebra.specs.Loops.{any, first, fold, tally, tabulate}
-use Rattle.algebra.proofs.AnswerLaws.{reflects-by, reflects-yes, reflects-no}
+use borrow.Author.Tests.{lt-ltb, le-ltb, eqb-true, eqb-false}
+use Rattle.algebra.specs.Answer.{Reflects, holds, fails}
+use Rattle.algebra.specs.Loops.{any, every, anyOf, first, fold, tally, tabulate}
+use Rattle.algebra.proofs.AnswerLaws.{reflects-by, reflects-yes, reflects-no, reflects-true, reflects-iff, reflects-not, reflects-or, reflects-and, reflects-eqb}
 
 -- below suc n: below n, or n itself
 pub last : (i n : ℕ) → i < suc n → (i < n) ⊎ (i ≡ n)
@@ -100,6 +107,117 @@ module _ (f : ℕ → Bool) where
 pub reflects-any : (P : ℕ → Type 0) (f : ℕ → Bool) (n : ℕ) → ((i : ℕ) → i < n → Reflects (P i) (f i)) → Reflects ((i : ℕ) × (i < n) × P i) (any n f)
 reflects-any P f n h = reflects-by (any n f) (λ e. let r = any-some f n e in (r .0, r .1, reflects-yes (h (r .0) (r .1)) (r .2)))
     (λ e r. reflects-no (h (r .0) (r .1)) (any-no f n (r .0) e (r .1)) (r .2))
+
+pub any-last : (f : ℕ → Bool) (n : ℕ) → any (suc n) f ≡ (any n f || f n)
+unfolding any
+any-last f n = refl
+
+-- the first m, then n more
+pub any-add : (f : ℕ → Bool) (m n : ℕ) → any (m + n) f ≡ (any m f || any n (λ i. f (m + i)))
+unfolding any
+any-add f m zero = ap (λ (k : ℕ). any k f) (let e : m + 0 ≡ m = omega arith in e) ∙ sym (or-false (any m f))
+any-add f m (suc n) =
+    ap (λ (k : ℕ). any k f) (let e : m + suc n ≡ suc (m + n) = omega arith in e) ∙ ap (λ (b : Bool). b || f (m + n)) (any-add f m n)
+    ∙ or-assoc (any m f) (any n (λ i. f (m + i))) (f (m + n))
+
+pub any-same : (f g : ℕ → Bool) (n : ℕ) → ((i : ℕ) → i < n → f i ≡ g i) → any n f ≡ any n g
+unfolding any
+any-same f g zero h = refl
+any-same f g (suc n) h = rw (any-same f g n (λ i l. h i (omega arith)), h n (omega arith)) refl
+
+-- ---- every
+
+and-yes : (a b : Bool) → a ≡ true → b ≡ true → (a && b) ≡ true
+and-yes true b p q = q
+and-yes false b p q = p
+
+-- both of two tests hold
+pub and-parts : (a b : Bool) → (a && b) ≡ true → (a ≡ true) × (b ≡ true)
+and-parts true b p = (refl, p)
+and-parts false b p = (p, cc)
+
+module _ (f : ℕ → Bool) where
+  pub every-none : every 0 f ≡ true
+  unfolding every
+  every-none = refl
+
+  pub every-yes : (n : ℕ) → ((i : ℕ) → i < n → f i ≡ true) → every n f ≡ true
+  unfolding every
+  every-yes zero h = refl
+  every-yes (suc n) h = and-yes (every n f) (f n) (every-yes n (λ i l. h i (omega arith))) (h n (omega arith))
+
+  pub every-at : (n i : ℕ) → every n f ≡ true → i < n → f i ≡ true
+  unfolding every
+  every-at zero i p h = absurd (not-suc-le-zero h)
+  every-at (suc n) i p h = ⊎-elim (λ k. every-at n i (and-parts (every n f) (f n) p .0) k) (λ e. ap f e ∙ and-parts (every n f) (f n) p .1) (last i n h)
+
+  -- `p : r ≡ f i` is what the callee says of its answer
+  pub every-broken : (n i : ℕ) {r : Bool} → i < n → r ≡ f i → r ≡ false → false ≡ every n f
+  every-broken n i h p t = go (every n f) refl
+    where
+      go : (b : Bool) → every n f ≡ b → false ≡ b
+      go true e = sym t ∙ p ∙ every-at n i e h
+      go false e = refl
+
+  pub every-on : (i : ℕ) {r : Bool} → every i f ≡ true → r ≡ f i → r ≡ true → every (i + 1) f ≡ true
+  unfolding every
+  every-on i q p t = rw add-one (and-yes (every i f) (f i) q (sym p ∙ t))
+
+  pub every-end : (n i : ℕ) → i ≤ n → n ≤ i → every i f ≡ true → true ≡ every n f
+  every-end n i h k q = at-end (λ m. every m f) i n h k (sym q)
+
+pub every-same : (f g : ℕ → Bool) (n : ℕ) → ((i : ℕ) → i < n → f i ≡ g i) → every n f ≡ every n g
+unfolding every
+every-same f g zero h = refl
+every-same f g (suc n) h = rw (every-same f g n (λ i l. h i (omega arith)), h n (omega arith)) refl
+
+pub every-not : (f : ℕ → Bool) (n : ℕ) → every n (λ i. not (f i)) ≡ not (any n f)
+unfolding every any
+every-not f zero = refl
+every-not f (suc n) = ap (λ (b : Bool). b && not (f n)) (every-not f n) ∙ neither (any n f) (f n)
+  where
+    neither : (a b : Bool) → (not a && not b) ≡ not (a || b)
+    neither true b = refl
+    neither false b = refl
+
+pub reflects-every : (P : ℕ → Type 0) (f : ℕ → Bool) (n : ℕ) → ((i : ℕ) → i < n → Reflects (P i) (f i)) → Reflects ((i : ℕ) → i < n → P i) (every n f)
+reflects-every P f n h = reflects-by (every n f) (λ e i l. reflects-yes (h i l) (every-at f n i e l)) (λ e p. true≢false (sym (every-yes f n (λ i l. reflects-true (h i l) (p i l))) ∙ e))
+
+-- ---- exactly one
+
+pub reflects-test : (b : Bool) → Reflects (b ≡ true) b
+reflects-test true = holds refl
+reflects-test false = fails (λ e. true≢false (sym e))
+
+pub reflects-lone : (f : ℕ → Bool) (n : ℕ)
+    → Reflects ((j : ℕ) × (j < n) × (f j ≡ true) × ((i : ℕ) → i < n → f i ≡ true → i ≡ j)) (any n (λ j. f j && not (any n (λ i. not (eqb i j) && f i))))
+reflects-lone f n = reflects-iff (λ r. (r .0, r .1, r .2 .0, r .2 .1), λ r. (r .0, r .1, (r .2, r .3)))
+    (reflects-any (λ j. (f j ≡ true) × ((i : ℕ) → i < n → f i ≡ true → i ≡ j)) (λ j. f j && not (any n (λ i. not (eqb i j) && f i))) n (λ j l. reflects-and (reflects-test (f j)) (alone j)))
+  where
+    alone : (j : ℕ) → Reflects ((i : ℕ) → i < n → f i ≡ true → i ≡ j) (not (any n (λ i. not (eqb i j) && f i)))
+    alone j = reflects-iff (into, λ h r. r .2 .0 (h (r .0) (r .1) (r .2 .1)))
+        (reflects-not (reflects-any (λ i. (i ≡ j → ⊥) × (f i ≡ true)) (λ i. not (eqb i j) && f i) n (λ i l. reflects-and (reflects-not (reflects-eqb i j)) (reflects-test (f i)))))
+      where
+        into : ((i : ℕ) × (i < n) × ((i ≡ j → ⊥) × (f i ≡ true)) → ⊥) → (i : ℕ) → i < n → f i ≡ true → i ≡ j
+        into h i l e = go (eqb i j) refl
+          where
+            go : (b : Bool) → eqb i j ≡ b → i ≡ j
+            go true q = eqb-true i j q
+            go false q = absurd (h (i, l, (eqb-false i j q, e)))
+
+-- ---- lists
+
+pub reflects-anyOf : {A : Type 0} (P : A → Type 0) (f : A → Bool) (xs : List A) → ((x : A) → List·Memᴰ x xs → Reflects (P x) (f x)) → Reflects ((x : A) × List·Memᴰ x xs × P x) (anyOf f xs)
+unfolding anyOf
+reflects-anyOf P f [] h = fails (λ r. List·Memᴰ·not-nil (r .1))
+reflects-anyOf {A} P f (x ∷ xs) h = reflects-iff (into, out) (reflects-or (h x (List·Memᴰ·head refl)) (reflects-anyOf P f xs (λ y m. h y (List·Memᴰ·tail m))))
+  where
+    into : P x ⊎ ((y : A) × List·Memᴰ y xs × P y) → (y : A) × List·Memᴰ y (x ∷ xs) × P y
+    into (inl p) = (x, List·Memᴰ·head refl, p)
+    into (inr r) = (r .0, List·Memᴰ·tail (r .1), r .2)
+
+    out : (y : A) × List·Memᴰ y (x ∷ xs) × P y → P x ⊎ ((y : A) × List·Memᴰ y xs × P y)
+    out r = ⊎-elim (λ e. inl (subst P e (r .2))) (λ m. inr (r .0, m, r .2)) (List·Memᴰ·cases-cons (r .1))
 
 -- ---- first
 
@@ -212,6 +330,11 @@ module _ {A : Type 0} (f : ℕ → A) where
       ⊎-elim (λ k. List·getD-append (tabulate n f) (f n ∷ []) d i (rw (length-tabulate n) k) ∙ getD-tabulate n i d k)
       (λ e. getD-at (tabulate n f) (f n) [] d i (length-tabulate n ∙ sym e) ∙ ap f (sym e))
       (last i n h)
+
+  pub tabulate-same : (g : ℕ → A) (n : ℕ) → ((i : ℕ) → i < n → f i ≡ g i) → tabulate n f ≡ tabulate n g
+  unfolding tabulate
+  tabulate-same g zero h = refl
+  tabulate-same g (suc n) h = (λ k. tabulate-same g n (λ i l. h i (omega arith)) k ++ h n (omega arith) k ∷ [])
 
   pub fill-none : (l₀ : List A) → l₀ ≡ tabulate 0 f ++ drop 0 l₀
   unfolding tabulate

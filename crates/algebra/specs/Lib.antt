@@ -3,3 +3,4 @@ pub mod Loops
 pub mod Sets
 pub mod Sign
 pub mod Sum
+pub mod Words

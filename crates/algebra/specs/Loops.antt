@@ -1,6 +1,8 @@
 -- The small functions that a loop of the code is mirrored by, each over the numbers that the loop goes through.
 --
 --   any n f        some i < n passes f
+--   every n f      every i < n passes f
+--   anyOf f xs     some member of xs passes f
 --   first n f      the least i < n that passes f, and n where none does
 --   fold f a n     a, then f 0 of it, then f 1, .. , then f (n - 1)
 --   tally n f      f 0 + f 1 + .. + f (n - 1)
@@ -10,7 +12,7 @@
 --   over f a b     f a ++ f (a + 1) ++ .. ++ f (b - 1)
 --
 -- Laws: proofs/LoopLaws (what a loop wants where it begins, goes on and ends), proofs/PicksLaws (place and rank are inverse), proofs/OverLaws.
-use mathlib.Core.Bool.{Bool, false, cond, _||_}
+use mathlib.Core.Bool.{Bool, true, false, cond, _||_, _&&_}
 use mathlib.Core.List.{List, [], _∷_, _++_}
 use Prim.Native.Nat.{ℕ, zero, suc, _+_, _-_}
 use lib.Dec.{ltb}
@@ -18,6 +20,14 @@ use lib.Dec.{ltb}
 unfoldable pub any : ℕ → (ℕ → Bool) → Bool
 any zero f = false
 any (suc n) f = any n f || f n
+
+unfoldable pub every : ℕ → (ℕ → Bool) → Bool
+every zero f = true
+every (suc n) f = every n f && f n
+
+unfoldable pub anyOf : {A : Type 0} → (A → Bool) → List A → Bool
+anyOf f [] = false
+anyOf f (x ∷ xs) = f x || anyOf f xs
 
 unfoldable pub first : ℕ → (ℕ → Bool) → ℕ
 first zero f = zero

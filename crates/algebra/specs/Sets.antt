@@ -1,24 +1,50 @@
 -- Increasing lists of numbers as sets, their lexicographic order, and nested loops over them.
 --
 --   isOn i s        i is in s, as a test
+--   On s i          the same as a statement
+--   allOn s t       every number of s is in t
+--   sameList s t    s and t are one list
+--   union n s t     the numbers below n that are in s or in t
+--   dropped n a s   the numbers below n that are in s, but for a
 --   Within a s n    s is increasing, and its numbers are from a to n - 1
 --   Lex s t         s comes before t in lexicographic order, for lists of one length
 --   maskOf s        2 ^ i for each i of s, summed: the set as a mask
 --   bit x i         bit i of x is set
+--   setsOf k n      the increasing lists of k of the numbers below n, in lexicographic order
+--   placeOf s ss    the place of s in ss, from 0; the length of ss where s is not there
 --   nest k f a n    f of each increasing list of k numbers from a to n - 1, in lexicographic order, joined: k loops, one in the other
 --
 -- Laws: proofs/SetLaws, proofs/BitLaws.
 use mathlib.Core.Path.{_≡_}
 use mathlib.Core.Logic.{_⊎_}
-use mathlib.Core.Bool.{Bool, false, _||_}
+use mathlib.Core.Bool.{Bool, true, false, not, cond, _||_, _&&_}
 use mathlib.Core.List.{List, [], _∷_}
 use Prim.Native.Nat.{ℕ, zero, suc, _+_, _/_, _%_, _^_, _≤_, _<_}
 use lib.Dec.{eqb}
-use Rattle.algebra.specs.Loops.{over}
+use Rattle.algebra.specs.Loops.{picks, over}
 
 unfoldable pub isOn : ℕ → List ℕ → Bool
 isOn i [] = false
 isOn i (j ∷ s) = eqb i j || isOn i s
+
+abbrev pub On : List ℕ → ℕ → Type 0
+On s i = isOn i s ≡ true
+
+unfoldable pub allOn : List ℕ → List ℕ → Bool
+allOn [] t = true
+allOn (i ∷ s) t = isOn i t && allOn s t
+
+unfoldable pub sameList : List ℕ → List ℕ → Bool
+sameList [] [] = true
+sameList [] (j ∷ t) = false
+sameList (i ∷ s) [] = false
+sameList (i ∷ s) (j ∷ t) = eqb i j && sameList s t
+
+unfoldable pub union : ℕ → List ℕ → List ℕ → List ℕ
+union n s t = picks n (λ i. isOn i s || isOn i t)
+
+unfoldable pub dropped : ℕ → ℕ → List ℕ → List ℕ
+dropped n a s = picks n (λ i. isOn i s && not (eqb i a))
 
 abbrev pub Within : ℕ → List ℕ → ℕ → Type 0
 Within a [] n = Unit {0}
@@ -39,3 +65,10 @@ bit x i = eqb (x / 2 ^ i % 2) 1
 unfoldable pub nest : {A : Type 0} → ℕ → (List ℕ → List A) → ℕ → ℕ → List A
 nest zero f a n = f []
 nest (suc k) f a n = over (λ i. nest k (λ s. f (i ∷ s)) (i + 1) n) a n
+
+abbrev pub setsOf : ℕ → ℕ → List (List ℕ)
+setsOf k n = nest k (λ s. s ∷ []) 0 n
+
+unfoldable pub placeOf : List ℕ → List (List ℕ) → ℕ
+placeOf s [] = 0
+placeOf s (t ∷ ts) = cond (sameList s t) 0 (suc (placeOf s ts))

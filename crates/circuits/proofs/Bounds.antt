@@ -17,11 +17,11 @@ use borrow.Author.Tests.{ltb-false}
 use Rattle.algebra.specs.Loops.{any, run, over}
 use Rattle.algebra.specs.Sign.{isNought}
 use Rattle.algebra.proofs.LoopLaws.{any-no}
-use Rattle.algebra.specs.Sets.{nest}
+use Rattle.algebra.specs.Sets.{nest, setsOf}
 use Rattle.algebra.proofs.SetLaws.{nest-length}
 use Rattle.shots.specs.Sizes.{shotsMost}
 use Rattle.shots.specs.Patch.{countOf, orientOf}
-use Rattle.circuits.specs.Sizes.{circuitsMost, setsOf, candidates}
+use Rattle.circuits.specs.Sizes.{circuitsMost, candidates}
 use Rattle.circuits.specs.Sides.{Circuit, split}
 use Rattle.circuits.proofs.Sources.{threeOf, fourOf, threes-nest, fours-nest}
 use Rattle.circuits.specs.Filled.{Filled, Fits}

@@ -1,3 +1,5 @@
 pub mod Points
 pub mod Dependencies
 pub mod Circuits
+pub mod Triangulations
+pub mod Flips
