@@ -6,3 +6,4 @@ pub mod Inside
 pub mod Conforming
 pub mod Crossing
 pub mod Lines
+pub mod FlipLaws

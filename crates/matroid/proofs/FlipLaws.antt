@@ -1,0 +1,225 @@
+-- Flips of a triangulation: only one side of a circuit can be supported, what is put in is new, and a flip is undone by the flip of the other side.
+--
+--   no-whole         no member holds a whole circuit
+--   some-side        a circuit has points on both sides
+--   not-both         not both sides are supported
+--   put-in-new       what a flip puts in was not there
+--   taken-out-old    what it takes out was there
+--   link-off         a member of the link of a piece has no point of the circuit
+--   flip-back        the flip of the other side leads back
+--
+-- The definitions: specs/Flips. Source 001, section 3.4.
+use mathlib.Core.Path.{_≡_, refl, sym, _∙_, ap, subst}
+use mathlib.Core.Logic.{_⊎_, inl, inr, ⊎-elim, _↔_}
+use mathlib.Core.Bool.{not, _&&_}
+use mathlib.Core.List.{List}
+use Prim.Native.Nat.{ℕ, zero, suc, _<_}
+use native.Mathlib.Omega.{arith}
+use native.Mathlib.Decide.{ℕ-discrete}
+use lib.Dec.{eqb}
+use lib.IntN.{ℤ, pos, negℤ, _+ℤ_, +ℤ-comm}
+use Rattle.algebra.specs.Answer.{Reflects}
+use Rattle.algebra.specs.Loops.{picks}
+use Rattle.algebra.specs.Sets.{isOn, On, Within, union}
+use Rattle.algebra.specs.Sign.{Sign, minus, nought, plus, opposite, isNought, Pos, NN, Tri, below, at-nought, above}
+use Rattle.algebra.specs.Sum.{sum}
+use Rattle.algebra.proofs.AnswerLaws.{reflects-yes, reflects-true, reflects-iff, reflects-agree, reflects-not, reflects-or, reflects-and, reflects-ltb, reflects-eqb, is-nought}
+use Rattle.algebra.proofs.SetTests.{reflects-on, on-low, set-same, isOn-picks, picks-within, on-union, union-within}
+use Rattle.algebra.proofs.SignLaws.{tri, nn-zero, nn-add, pos-zero, pos-nn-add, neg-nn, np-of, neg-zero, dec-pos, signOf-pos, opposite-opposite, plus-minus, plus-nought, minus-nought}
+use Rattle.matroid.specs.Points.{Configuration}
+use Rattle.matroid.specs.Circuits.{SignVector, Circuit}
+use Rattle.matroid.specs.Triangulations.{Family, Triangulation}
+use Rattle.matroid.specs.Flips.{Piece, Joins, Link, Supports, Star, Flip}
+use Rattle.matroid.proofs.Search.{none-below, last-or-below, Least, least}
+use Rattle.matroid.proofs.Dependent.{somewhere-nowhere, dep-neg}
+use Rattle.matroid.proofs.Conforming.{circuit-against}
+
+-- ---- the two sides
+
+module _ {s : Sign} (d : (s ≡ plus) ⊎ (s ≡ minus)) where
+  side-signed : s ≡ nought → ⊥
+  side-signed e = ⊎-elim (λ q. plus-nought (sym q ∙ e)) (λ q. minus-nought (sym q ∙ e)) d
+
+  other-side : (opposite s ≡ plus) ⊎ (opposite s ≡ minus)
+  unfolding opposite
+  other-side = ⊎-elim (λ q. inr (ap opposite q)) (λ q. inl (ap opposite q)) d
+
+  sides-differ : opposite s ≡ s → ⊥
+  unfolding opposite
+  sides-differ e = ⊎-elim (λ q. plus-minus (sym q ∙ sym e ∙ ap opposite q)) (λ q. plus-minus (sym (ap opposite q) ∙ e ∙ q)) d
+
+-- a sum of numbers that are not negative is 0 only where they all are
+nn-sum : (n : ℕ) (f : ℕ → ℤ) → ((i : ℕ) → i < n → NN (f i)) → NN (sum n f)
+nn-sum zero f h = nn-zero refl
+nn-sum (suc n) f h = nn-add (nn-sum n f (λ i l. h i (omega arith))) (h n (omega arith))
+
+part-zero : {a b : ℤ} → NN a → NN b → a +ℤ b ≡ pos 0 → a ≡ pos 0
+part-zero {a} {b} h k e = go (tri a)
+  where
+    go : Tri a → a ≡ pos 0
+    go (below p) = neg-nn p h
+    go (at-nought q) = q
+    go (above p) = pos-zero (pos-nn-add p k) e
+
+nn-sum-zero : (n : ℕ) (f : ℕ → ℤ) → ((i : ℕ) → i < n → NN (f i)) → sum n f ≡ pos 0 → (i : ℕ) → i < n → f i ≡ pos 0
+nn-sum-zero zero f h e i l = none-below i l
+nn-sum-zero (suc n) f h e i l =
+    let k : NN (sum n f) = nn-sum n f (λ j m. h j (omega arith)) in
+    last-or-below n i l (λ q. ap f q ∙ part-zero (h n (omega arith)) k (+ℤ-comm (f n) (sum n f) ∙ e)) (nn-sum-zero n f (λ j m. h j (omega arith)) (part-zero k (h n (omega arith)) e) i)
+
+module _ {n : ℕ} {P : Configuration} where
+  some-plus : {X : SignVector} → Circuit n P X → (a : ℕ) × (a < n) × (X a ≡ plus)
+  some-plus {X} z = go (least n (λ i. Pos (z .by i)) (λ i. dec-pos (z .by i)))
+    where
+      go : Least n (λ i. Pos (z .by i)) ⊎ ((i : ℕ) → i < n → Pos (z .by i) → ⊥) → (a : ℕ) × (a < n) × (X a ≡ plus)
+      go (inl m) = (m .here, m .low, z .signs (m .here) (m .low) ∙ signOf-pos (z .by (m .here)) (m .so))
+      go (inr none) = somewhere-nowhere (z .somewhere)
+          (λ i l. neg-zero (z .by i) (nn-sum-zero n (λ j. negℤ (z .by j)) (λ j k. np-of (z .by j) (none j k)) (dep-neg n P (z .by) (z .dependency) .ones) i l))
+
+  pub some-side : {X : SignVector} → Circuit n P X → (s : Sign) → (s ≡ plus) ⊎ (s ≡ minus) → (a : ℕ) × (a < n) × (X a ≡ s)
+  unfolding opposite
+  some-side {X} z s (inl e) = let r = some-plus z in (r .0, r .1, r .2 ∙ sym e)
+  some-side {X} z s (inr e) = let r = some-plus (circuit-against z) in (r .0, r .1, sym (opposite-opposite (X (r .0))) ∙ ap opposite (r .2) ∙ sym e)
+
+-- ---- pieces, and sets joined
+
+module _ (n : ℕ) (X : SignVector) where
+  -- the circuit's points without the point a
+  pieceOf : ℕ → List ℕ
+  pieceOf a = picks n (λ i. not (isNought (X i)) && not (eqb i a))
+
+  piece-of : (s : Sign) (a : ℕ) → a < n → X a ≡ s → Piece n X s (pieceOf a)
+  unfolding pieceOf
+  piece-of s a l e = (a, l, e, picks-within _ n, λ i k. (λ o. reflects-yes (on i) o .1, λ r. reflects-true (on i) (k, r)))
+    where
+      on : (i : ℕ) → Reflects ((i < n) × ((X i ≡ nought → ⊥) × (i ≡ a → ⊥))) (isOn i (picks n (λ i. not (isNought (X i)) && not (eqb i a))))
+      on i = rw (isOn-picks (λ j. not (isNought (X j)) && not (eqb j a)) n i) (reflects-and (reflects-ltb i n) (reflects-and (reflects-not (is-nought (X i))) (reflects-not (reflects-eqb i a))))
+
+  -- a piece of a side holds the other side
+  piece-holds : (s : Sign) → (s ≡ plus) ⊎ (s ≡ minus) → (p : List ℕ) → Piece n X s p → (i : ℕ) → i < n → X i ≡ opposite s → On p i
+  piece-holds s d p q i l e = q .4 i l .1 (λ z. side-signed (other-side d) (sym e ∙ z), λ z. sides-differ d (sym e ∙ ap X z ∙ q .2))
+
+  joined-holds : (s : Sign) → (s ≡ plus) ⊎ (s ≡ minus) → (p c t : List ℕ) → Piece n X s p → Joins p c t → (i : ℕ) → i < n → X i ≡ opposite s → On t i
+  joined-holds s d p c t q j i l e = j .0 i .1 (inl (piece-holds s d p q i l e))
+
+-- a set is known by its numbers
+known : (n : ℕ) (s t : List ℕ) → Within 0 s n → Within 0 t n → ((i : ℕ) → i < n → On s i ↔ On t i) → s ≡ t
+known n s t v w h = set-same s t n v w (λ i l. reflects-agree (reflects-on i s) (reflects-iff (h i l .1, h i l .0) (reflects-on i t)))
+
+union-joins : (n : ℕ) (p c : List ℕ) → Within 0 p n → Within 0 c n → ((i : ℕ) → On p i → On c i → ⊥) → Joins p c (union n p c)
+union-joins n p c v w h = (λ i. (λ o. reflects-yes (on i) o .1, λ o. reflects-true (on i) (⊎-elim (λ q. on-low p 0 n i v q .1) (λ q. on-low c 0 n i w q .1) o, o)), h)
+  where
+    on : (i : ℕ) → Reflects ((i < n) × (On p i ⊎ On c i)) (isOn i (union n p c))
+    on i = rw (on-union n p c i) (reflects-and (reflects-ltb i n) (reflects-or (reflects-on i p) (reflects-on i c)))
+
+-- ---- one triangulation
+
+module _ {n : ℕ} {P : Configuration} {T : Family} {X : SignVector} (g : Triangulation n P T) (z : Circuit n P X) where
+  -- the sides are not inside two members
+  sides-apart : (s : Sign) → (s ≡ plus) ⊎ (s ≡ minus) → (t u : List ℕ) → T t → T u → ((i : ℕ) → i < n → X i ≡ s → On t i) → ((i : ℕ) → i < n → X i ≡ opposite s → On u i) → ⊥
+  unfolding opposite
+  sides-apart s (inl e) t u m k h j = g .ip t u m k (record { by = X; circuit = z; left = λ i l q. h i l (q ∙ sym e); right = λ i l q. j i l (q ∙ sym (ap opposite e)) })
+  sides-apart s (inr e) t u m k h j = g .ip u t k m (record { by = X; circuit = z; left = λ i l q. j i l (q ∙ sym (ap opposite e)); right = λ i l q. h i l (q ∙ sym e) })
+
+  pub no-whole : (t : List ℕ) → T t → ((i : ℕ) → i < n → (X i ≡ nought → ⊥) → On t i) → ⊥
+  no-whole t m h = g .ip t t m m (record { by = X; circuit = z; left = λ i l q. h i l (λ e. plus-nought (sym q ∙ e)); right = λ i l q. h i l (λ e. minus-nought (sym q ∙ e)) })
+
+  pub not-both : Supports n T X plus → Supports n T X minus → ⊥
+  unfolding opposite
+  not-both h k =
+      let (p, c, q, (w, (t, m, j))) = h .some in
+      let (p′, c′, q′, (w′, (t′, m′, j′))) = k .some in
+      sides-apart plus (inl refl) t′ t m′ m (joined-holds n X minus (inr refl) p′ c′ t′ q′ j′) (joined-holds n X plus (inl refl) p c t q j)
+
+  pub put-in-new : {s : Sign} → (s ≡ plus) ⊎ (s ≡ minus) → (t : List ℕ) → Star n T X s (opposite s) t → T t → ⊥
+  put-in-new {s} d t r m =
+      let (w, (p, c, b, q, (v, (u, m′, k)), q′, j)) = r in
+      sides-apart s d t u m m′ (λ i l e. joined-holds n X (opposite s) (other-side d) b c t q′ j i l (e ∙ sym (opposite-opposite s))) (joined-holds n X s d p c u q k)
+
+  pub link-off : {s : Sign} → (p c : List ℕ) → Piece n X s p → Link n T p c → (i : ℕ) → i < n → (X i ≡ nought → ⊥) → On c i → ⊥
+  link-off {s} p c q v i l e o =
+      let (w, (t, m, j)) = v in
+      no-whole t m (λ k h f. go t j k (ℕ-discrete k (q .0)) h f)
+    where
+      -- the point that the piece lacks is in c
+      lacks : (t : List ℕ) → Joins p c t → i ≡ q .0
+      lacks t j = at (ℕ-discrete i (q .0))
+        where
+          at : Dec (i ≡ q .0) → i ≡ q .0
+          at (yes y) = y
+          at (no y) = absurd (j .1 i (q .4 i l .1 (e, y)) o)
+
+      go : (t : List ℕ) → Joins p c t → (k : ℕ) → Dec (k ≡ q .0) → k < n → (X k ≡ nought → ⊥) → On t k
+      go t j k (yes y) h f = j .0 k .1 (inr (subst (λ (x : ℕ). On c x) (lacks t j ∙ sym y) o))
+      go t j k (no y) h f = j .0 k .1 (inl (q .4 k h .1 (f, y)))
+
+pub taken-out-old : {n : ℕ} {P : Configuration} {T : Family} {X : SignVector} {s : Sign} → Triangulation n P T → Supports n T X s → (t : List ℕ) → Star n T X s s t → T t
+taken-out-old {n} {P} {T} {X} {s} g h t r =
+    let (w, (p, c, b, q, v, q′, j)) = r in
+    let (v₀, (u, m, k)) = h .same p b c q q′ v in
+    subst T (known n u t (g .triples u m .0) w (λ i l. (λ o. j .0 i .1 (k .0 i .0 o), λ o. k .0 i .1 (j .0 i .0 o)))) m
+
+-- ---- there and back
+
+module _ {n : ℕ} {P : Configuration} {T T′ : Family} {X : SignVector} {s : Sign} (g : Triangulation n P T) (g′ : Triangulation n P T′) (z : Circuit n P X) (d : (s ≡ plus) ⊎ (s ≡ minus)) (f : Flip n T X s T′) where
+  -- a piece of the other side, and those whose link a set is in: before the flip for the one side, after it for the other
+  otherPiece : (b : List ℕ) × Piece n X (opposite s) b
+  otherPiece = let r = some-side z (opposite s) (other-side d) in (pieceOf n X (r .0), piece-of n X (opposite s) (r .0) (r .1) (r .2))
+
+  link-after : (p b c : List ℕ) → Piece n X s p → Piece n X (opposite s) b → Link n T p c → Link n T′ b c
+  link-after p b c q q′ v = (v .0, (union n b c, f .exchanged (union n b c) .1 (inr (union-within n b c, (p, c, b, q, v, q′, joins))), joins))
+    where
+      joins : Joins b c (union n b c)
+      joins = union-joins n b c (q′ .3) (v .0) (λ i o o′. let l = on-low b 0 n i (q′ .3) o .1 in link-off g z p c q v i l (q′ .4 i l .0 o .0) o′)
+
+  link-before : (b c : List ℕ) → Piece n X (opposite s) b → Link n T′ b c → (p : List ℕ) × Piece n X s p × Link n T p c
+  link-before b c q v = let (w, (t, m, j)) = v in ⊎-elim (λ r. absurd (stayed t j (r .0))) (came t j) (f .exchanged t .0 m)
+    where
+      stayed : (t : List ℕ) → Joins b c t → T t → ⊥
+      stayed t j m =
+          let (p, c′, q′, (v′, (u, m′, k))) = f .supported .some in
+          sides-apart g z s d t u m m′ (λ i l e. joined-holds n X (opposite s) (other-side d) b c t q j i l (e ∙ sym (opposite-opposite s))) (joined-holds n X s d p c′ u q′ k)
+
+      -- two sets off the circuit that complete pieces to one set are the same
+      came : (t : List ℕ) → Joins b c t → Star n T X s (opposite s) t → (p : List ℕ) × Piece n X s p × Link n T p c
+      came t j r =
+          let (w, (p, c′, b′, q₁, v₁, q₂, k)) = r in
+          let e : c′ ≡ c = known n c′ c (v₁ .0) (v .0) (λ i l. (
+            λ o. ⊎-elim (λ y. absurd (link-off g z p c′ q₁ v₁ i l (q .4 i l .0 y .0) o)) (λ y. y) (j .0 i .0 (k .0 i .1 (inr o))),
+            λ o. ⊎-elim (λ y. absurd (link-off g′ z b c q v i l (q₂ .4 i l .0 y .0) o)) (λ y. y) (k .0 i .0 (j .0 i .1 (inr o))),
+          )) in
+          (p, q₁, subst (λ (x : List ℕ). Link n T p x) e v₁)
+
+  -- a star after the flip is one before it
+  star-before : (q : Sign) (t : List ℕ) → Star n T′ X (opposite s) q t → Star n T X s q t
+  star-before q t r =
+      let (w, (b, c, a, k, v, k′, j)) = r in
+      let (p, h, u) = link-before b c k v in
+      (w, (p, c, a, h, u, k′, j))
+
+  star-after : (q : Sign) (t : List ℕ) → Star n T X s q t → Star n T′ X (opposite s) q t
+  star-after q t r =
+      let (w, (p, c, a, k, v, k′, j)) = r in
+      let (b, h) = otherPiece in
+      (w, (b, c, a, h, link-after p b c k h v, k′, j))
+
+  supported-after : Supports n T′ X (opposite s)
+  supported-after = record {
+    some = let (p, c, q, v) = f .supported .some in let (b, h) = otherPiece in (b, c, h, link-after p b c q h v);
+    same = λ b b′ c h h′ v. let (p, q, u) = link-before b c h v in link-after p b′ c q h′ u;
+  }
+
+  back : ((t : List ℕ) → Dec (Star n T X s s t)) → Flip n T′ X (opposite s) T
+  back dec = record { supported = supported-after; exchanged = λ t. (into t (dec t), out t) }
+    where
+      into : (t : List ℕ) → Dec (Star n T X s s t) → T t → (T′ t × (Star n T′ X (opposite s) (opposite s) t → ⊥)) ⊎ Star n T′ X (opposite s) (opposite (opposite s)) t
+      into t (yes r) m = inr (star-after (opposite (opposite s)) t (subst (λ (q : Sign). Star n T X s q t) (sym (opposite-opposite s)) r))
+      into t (no r) m = inl (f .exchanged t .1 (inl (m, r)), λ k. put-in-new g z d t (star-before (opposite s) t k) m)
+
+      out : (t : List ℕ) → (T′ t × (Star n T′ X (opposite s) (opposite s) t → ⊥)) ⊎ Star n T′ X (opposite s) (opposite (opposite s)) t → T t
+      out t (inl r) = ⊎-elim (λ k. k .0) (λ k. absurd (r .1 (star-after (opposite s) t k))) (f .exchanged t .0 (r .0))
+      out t (inr r) = taken-out-old g (f .supported) t (subst (λ (q : Sign). Star n T X s q t) (opposite-opposite s) (star-before (opposite (opposite s)) t r))
+
+pub flip-back : {n : ℕ} {P : Configuration} {T T′ : Family} {X : SignVector} {s : Sign} → Triangulation n P T → Triangulation n P T′ → Circuit n P X → (s ≡ plus) ⊎ (s ≡ minus)
+    → ((t : List ℕ) → Dec (Star n T X s s t)) → Flip n T X s T′ → Flip n T′ X (opposite s) T
+flip-back g g′ z d dec f = back g g′ z d f dec
