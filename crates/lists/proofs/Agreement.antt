@@ -1,0 +1,289 @@
+-- The tests of a list decide the lines of document 01's table, which are statements of the published theorem; so a list that no line refuses is
+-- a triangulation in the published sense, and conversely. For a list w of the patch l:
+--
+--   past-decided     7: `pastLast` decides `PastLast`
+--   flat-decided     7: `someFlat` decides `FlatTriple`
+--   empty-decided    10: `isEmpty` decides `NoTriple`
+--   cross-decided    8: `crossing` decides `Cross`, for an accepted patch: its numbered circuits are the published ones, or those with every sign turned
+--   open-decided     9: `openEdge` decides `OpenEdge`
+--   list-decided     the rules decide the lines
+--   accepted-iff-triangulation    no line holds exactly when the list is a triangulation and has no bit past the last rank
+--
+-- Source 001, Theorem 2.1; document 01, "What a surface is".
+use mathlib.Core.Path.{_≡_, refl, sym, _∙_, ap, subst}
+use mathlib.Core.Logic.{_⊎_, inl, inr, ⊎-elim, _↔_}
+use mathlib.Core.Bool.{Bool, true, false, not, cond, _&&_, true≢false}
+use mathlib.Core.List.{List, [], _∷_}
+use Prim.Native.Nat.{ℕ, _*_, _≤_, _<_}
+use native.Mathlib.Omega.{arith}
+use lib.Dec.{leb, eqb}
+use lib.ListN.{length}
+use lib.IntN.{ℤ}
+use Rattle.algebra.specs.Answer.{Reflects, holds, fails, Clear, Decides}
+use Rattle.algebra.specs.Loops.{any}
+use Rattle.algebra.specs.Sets.{isOn, On, Within}
+use Rattle.algebra.specs.Sign.{Sign, minus, nought, plus, opposite, isNought, sameSign}
+use Rattle.algebra.specs.Words.{wordBits, member}
+use Rattle.algebra.proofs.AnswerLaws.{reflects-iff, reflects-not, reflects-or, reflects-and, reflects-leb, reflects-eqb, is-nought}
+use Rattle.algebra.proofs.ListLaws.{getD-mem}
+use Rattle.algebra.proofs.LoopLaws.{reflects-any, reflects-test}
+use Rattle.algebra.proofs.SetTests.{reflects-on, reflects-all-on, on-low}
+use Rattle.algebra.proofs.SignLaws.{opposite-signed, plus-minus, plus-nought, minus-nought}
+use Rattle.matroid.specs.Points.{Configuration}
+use Rattle.matroid.specs.Circuits.{Alike, against, Crossing}
+use Rattle.matroid.specs.Triangulations.{Edge, Flat, Border, Triangulation}
+use Rattle.shots.specs.Coordinates.{pointOf}
+use Rattle.shots.specs.Patch.{countOf, orientOf, borderOf}
+use Rattle.shots.specs.Tests.{refusalOf}
+use Rattle.shots.proofs.Orientations.{orient-is-chirotope, border-says}
+use Rattle.circuits.specs.Sides.{Circuit, split, signIn}
+use Rattle.circuits.specs.Numbered.{circuitsOf}
+use Rattle.circuits.specs.Calls.{circuitAt}
+use Rattle.circuits.proofs.SideLaws.{relative, signOn, on-side}
+use Rattle.circuits.proofs.Sources.{sources, Made, made}
+use Rattle.circuits.proofs.Signs.{sign-in, sides-within}
+use Rattle.circuits.proofs.Agreement.{circuit-published, published-numbered}
+use Rattle.lists.specs.Ranks.{tripleCount, tripleAt, rankOf}
+use Rattle.lists.specs.Tests.{isFlat, pastLast, someFlat, isEmpty, sidesIn, crosses, crossing, shared, openAt, openEdge, listRules}
+use Rattle.lists.specs.Lines.{Listed, PastLast, FlatTriple, NoTriple, Cross, OpenEdge, listLines}
+use Rattle.lists.proofs.RankLaws.{triple-at-within, rank-of-triple}
+
+-- a decided statement that is not false holds
+decided-stable : {A : Type 0} {b : Bool} → Reflects A b → ((A → ⊥) → ⊥) → A
+decided-stable (holds a) k = a
+decided-stable (fails h) k = absurd (k h)
+
+-- ---- the members of a list
+
+module _ (n : ℕ) (w : List ℕ) where
+  -- a test of each rank in the list decides that some triple of the list has the property
+  reflects-listed : (Q : List ℕ → Type 0) (f : ℕ → Bool) → ((r : ℕ) → r < tripleCount n → Reflects (Q (tripleAt n r)) (f r))
+      → Reflects ((s : List ℕ) × Listed n w s × Q s) (any (tripleCount n) (λ r. member w r && f r))
+  reflects-listed Q f h = reflects-iff (
+    λ r. (tripleAt n (r .0), (r .0, r .1, r .2 .0, refl), r .2 .1),
+    λ r. (r .1 .0, r .1 .1, (r .1 .2, subst Q (sym (r .1 .3)) (r .2))),
+  )
+      (reflects-any (λ r. (member w r ≡ true) × Q (tripleAt n r)) (λ r. member w r && f r) (tripleCount n) (λ r l. reflects-and (reflects-test (member w r)) (h r l)))
+
+  listed-decided : Reflects ((s : List ℕ) × Listed n w s) (any (tripleCount n) (member w))
+  listed-decided = reflects-iff (λ r. (tripleAt n (r .0), (r .0, r .1, r .2, refl)), λ r. (r .1 .0, r .1 .1, r .1 .2))
+      (reflects-any (λ r. member w r ≡ true) (member w) (tripleCount n) (λ r l. reflects-test (member w r)))
+
+  listed-within : (s : List ℕ) → Listed n w s → Within 0 s n × (length s ≡ 3)
+  listed-within s m = subst (λ (t : List ℕ). Within 0 t n × (length t ≡ 3)) (m .3) (triple-at-within n (m .0) (m .1))
+
+  -- ranks are one where their triples are
+  one-rank : (r s : ℕ) → r < tripleCount n → s < tripleCount n → tripleAt n r ≡ tripleAt n s → r ≡ s
+  one-rank r s h k e = sym (rank-of-triple n r h) ∙ ap (rankOf n) e ∙ rank-of-triple n s k
+
+  -- another triple of the list than s holds i and j
+  abbrev Shared : List ℕ → ℕ → ℕ → Type 0
+  Shared s i j = (t : List ℕ) × Listed n w t × ((t ≡ s → ⊥) × On t i × On t j)
+
+  shared-decided : (r i j : ℕ) → r < tripleCount n → Reflects (Shared (tripleAt n r) i j) (shared n w r i j)
+  unfolding shared
+  shared-decided r i j h =
+      reflects-listed (λ t. (t ≡ tripleAt n r → ⊥) × On t i × On t j) (λ s. not (eqb s r) && (isOn i (tripleAt n s) && isOn j (tripleAt n s)))
+      (λ s k. reflects-iff (λ p. (λ e. p .0 (one-rank s r k h e), p .1 .0, p .1 .1), λ p. (λ e. p .0 (ap (tripleAt n) e), (p .1, p .2)))
+      (reflects-and (reflects-not (reflects-eqb s r)) (reflects-and (reflects-on i (tripleAt n s)) (reflects-on j (tripleAt n s)))))
+
+-- ---- the sides of a numbered circuit
+
+minus-side : (s v : Sign) → isNought s ≡ false → sameSign (opposite s) v ≡ true → relative s v ≡ minus
+unfolding opposite
+minus-side minus minus h e = absurd (true≢false (sym e))
+minus-side minus nought h e = absurd (true≢false (sym e))
+minus-side minus plus h e = refl
+minus-side nought v h e = absurd (true≢false h)
+minus-side plus minus h e = refl
+minus-side plus nought h e = absurd (true≢false (sym e))
+minus-side plus plus h e = absurd (true≢false (sym e))
+
+plus-on : (z : Circuit) (i : ℕ) → On (z .plus) i ↔ (signIn z i ≡ plus)
+unfolding signIn
+plus-on z i = (λ o. rw o refl, go (isOn i (z .plus)) (isOn i (z .minus)))
+  where
+    go : (a b : Bool) → cond a plus (cond b minus nought) ≡ plus → a ≡ true
+    go true b e = refl
+    go false true e = plus-minus (sym e)
+    go false false e = plus-nought (sym e)
+
+on-minus : (z : Circuit) (i : ℕ) → signIn z i ≡ minus → On (z .minus) i
+unfolding signIn
+on-minus z i = go (isOn i (z .plus)) (isOn i (z .minus))
+  where
+    go : (a b : Bool) → cond a plus (cond b minus nought) ≡ minus → b ≡ true
+    go true b e = plus-minus e
+    go false true e = refl
+    go false false e = minus-nought (sym e)
+
+minus-on : (n : ℕ) (z : Circuit) → Made n z → (i : ℕ) → On (z .minus) i → signIn z i ≡ minus
+unfolding split
+minus-on n z m i o =
+    sign-in n z m i
+    ∙ minus-side (m .first .sign) (signOn (m .first ∷ m .rest) i) (m .signed .0)
+      (sym (on-side (opposite (m .first .sign)) 0 n (m .first ∷ m .rest) i (opposite-signed (m .first .sign) ∙ m .signed .0) (m .within)) ∙ ap (λ (c : Circuit). isOn i (c .minus)) (sym (m .is)) ∙ o)
+
+module _ (l : List ℤ) (w : List ℕ) where
+  abbrev n : ℕ
+  n = countOf l
+
+  abbrev P : Configuration
+  P = pointOf l
+
+  -- ---- 7, 10
+
+  pub past-decided : Reflects (PastLast l w) (pastLast l w)
+  unfolding pastLast
+  past-decided = reflects-iff (λ r. (r .0, r .1, r .2 .0, r .2 .1), λ r. (r .0, r .1, (r .2, r .3)))
+      (reflects-any (λ r. (tripleCount n ≤ r) × (member w r ≡ true)) (λ r. leb (tripleCount n) r && member w r) (wordBits * length w)
+      (λ r h. reflects-and (reflects-leb (tripleCount n) r) (reflects-test (member w r))))
+
+  flat-at : (s : List ℕ) → length s ≡ 3 → Reflects (Flat P s) (isFlat l s)
+  unfolding isFlat
+  flat-at [] e = absurd (omega arith)
+  flat-at (i ∷ []) e = absurd (omega arith)
+  flat-at (i ∷ j ∷ []) e = absurd (omega arith)
+  flat-at (i ∷ j ∷ k ∷ []) e = reflects-iff (
+    λ h. (i, j, k, refl, sym (orient-is-chirotope l i j k) ∙ h),
+    λ (a, b, c, q, h). let x : i ≡ a = cc in let y : j ≡ b = cc in let z : k ≡ c = cc in (λ t. orientOf l (x t) (y t) (z t)) ∙ orient-is-chirotope l a b c ∙ h,
+  )
+      (is-nought (orientOf l i j k))
+  flat-at (i ∷ j ∷ k ∷ h ∷ s) e = absurd (omega arith)
+
+  pub flat-decided : Reflects (FlatTriple l w) (someFlat l w)
+  unfolding someFlat
+  flat-decided = reflects-listed n w (Flat P) (λ r. isFlat l (tripleAt n r)) (λ r h. flat-at (tripleAt n r) (triple-at-within n r h .1))
+
+  pub empty-decided : Reflects (NoTriple l w) (isEmpty l w)
+  unfolding isEmpty
+  empty-decided = reflects-not (listed-decided n w)
+
+  -- ---- 8
+
+  -- the sides of z are inside s and t
+  abbrev Inside : Circuit → List ℕ → List ℕ → Type 0
+  Inside z s t = ((i : ℕ) → On (z .plus) i → On s i) × ((i : ℕ) → On (z .minus) i → On t i)
+
+  inside-decided : (z : Circuit) (s t : List ℕ) → Reflects (Inside z s t) (sidesIn z s t)
+  unfolding sidesIn
+  inside-decided z s t = reflects-and (reflects-all-on (z .plus) s) (reflects-all-on (z .minus) t)
+
+  crosses-decided : (z : Circuit) → Reflects ((s : List ℕ) × Listed n w s × ((t : List ℕ) × Listed n w t × Inside z s t)) (crosses n w z)
+  unfolding crosses
+  crosses-decided z =
+      reflects-listed n w (λ s. (t : List ℕ) × Listed n w t × Inside z s t) (λ r. any (tripleCount n) (λ q. member w q && sidesIn z (tripleAt n r) (tripleAt n q)))
+      (λ r h. reflects-listed n w (Inside z (tripleAt n r)) (λ q. sidesIn z (tripleAt n r) (tripleAt n q)) (λ q k. inside-decided z (tripleAt n r) (tripleAt n q)))
+
+  -- the sides of circuit z are inside two triples of the list
+  abbrev InTriples : ℕ → Type 0
+  InTriples z = (s : List ℕ) × Listed n w s × ((t : List ℕ) × Listed n w t × Inside (circuitAt l z) s t)
+
+  module _ (ok : refusalOf l ≡ 0) where
+    in-crossing : (z : ℕ) × (z < length (circuitsOf l)) × InTriples z → Cross l w
+    in-crossing (z, h, (s, m, (t, k, (a, b)))) = (s, t, m, k, record {
+      by = signIn (circuitAt l z);
+      circuit = circuit-published l ok z h;
+      left = λ i _ e. a i (plus-on (circuitAt l z) i .1 e);
+      right = λ i _ e. b i (on-minus (circuitAt l z) i e);
+    })
+
+    -- the signs of the crossing are those of the numbered circuit; or they are turned, and the two triples change places
+    module _ (s t : List ℕ) (m : Listed n w s) (k : Listed n w t) (c : Crossing n P (On s) (On t)) (z : ℕ) (h : z < length (circuitsOf l)) where
+      made-at : Made n (circuitAt l z)
+      made-at = made l (sources l (getD-mem (circuitsOf l) (record { plus = []; minus = [] }) z h))
+
+      on-plus : (i : ℕ) → On (circuitAt l z .plus) i → (i < n) × (signIn (circuitAt l z) i ≡ plus)
+      on-plus i o = (on-low (circuitAt l z .plus) 0 n i (sides-within n (circuitAt l z) made-at .0) o .1, plus-on (circuitAt l z) i .0 o)
+
+      on-other : (i : ℕ) → On (circuitAt l z .minus) i → (i < n) × (signIn (circuitAt l z) i ≡ minus)
+      on-other i o = (on-low (circuitAt l z .minus) 0 n i (sides-within n (circuitAt l z) made-at .1) o .1, minus-on n (circuitAt l z) made-at i o)
+
+      kept : Alike n (c .by) (signIn (circuitAt l z)) → InTriples z
+      kept a = (s, m, (t, k, (λ i o. let (j, e) = on-plus i o in c .left i j (a i j ∙ e), λ i o. let (j, e) = on-other i o in c .right i j (a i j ∙ e))))
+
+      turned : Alike n (c .by) (against (signIn (circuitAt l z))) → InTriples z
+      unfolding opposite
+      turned a = (t, k, (s, m, (λ i o. let (j, e) = on-plus i o in c .right i j (a i j ∙ ap opposite e), λ i o. let (j, e) = on-other i o in c .left i j (a i j ∙ ap opposite e))))
+
+    crossing-in : Cross l w → (z : ℕ) × (z < length (circuitsOf l)) × InTriples z
+    crossing-in (s, t, m, k, c) = let (z, h, a) = published-numbered l ok (c .by) (c .circuit) in (z, h, ⊎-elim (kept s t m k c z h) (turned s t m k c z h) a)
+
+    pub cross-decided : Reflects (Cross l w) (crossing l w)
+    unfolding crossing
+    cross-decided = reflects-iff (in-crossing, crossing-in) (reflects-any InTriples (λ z. crosses n w (circuitAt l z)) (length (circuitsOf l)) (λ z h. crosses-decided (circuitAt l z)))
+
+  -- ---- 9
+
+  border-decided : (i j : ℕ) → Reflects (Border n P i j) (borderOf l i j)
+  border-decided i j = reflects-iff (
+    λ e b. border-says l i j .0 e ((b .0 .0, b .0 .1, orient-is-chirotope l i j (b .0 .0) ∙ b .0 .2), (b .1 .0, b .1 .1, orient-is-chirotope l i j (b .1 .0) ∙ b .1 .2)),
+    λ h. border-says l i j .1 (λ b. h ((b .0 .0, b .0 .1, sym (orient-is-chirotope l i j (b .0 .0)) ∙ b .0 .2), (b .1 .0, b .1 .1, sym (orient-is-chirotope l i j (b .1 .0)) ∙ b .1 .2))),
+  )
+      (reflects-test (borderOf l i j))
+
+  -- some edge i < j of s is no border pair, and no other triple of the list holds it
+  abbrev OpenIn : List ℕ → Type 0
+  OpenIn s = (j : ℕ) × (j < n) × ((i : ℕ) × (i < j) × ((On s i × On s j) × ((Border n P i j → ⊥) × (Shared n w s i j → ⊥))))
+
+  open-at : (r i j : ℕ) → r < tripleCount n → Reflects ((On (tripleAt n r) i × On (tripleAt n r) j) × ((Border n P i j → ⊥) × (Shared n w (tripleAt n r) i j → ⊥))) (openAt l w r i j)
+  unfolding openAt
+  open-at r i j h =
+      reflects-and (reflects-and (reflects-on i (tripleAt n r)) (reflects-on j (tripleAt n r)))
+      (reflects-and (reflects-not (border-decided i j)) (reflects-not (shared-decided n w r i j h)))
+
+  open-in : (r : ℕ) → r < tripleCount n → Reflects (OpenIn (tripleAt n r)) (any n (λ j. any j (λ i. openAt l w r i j)))
+  open-in r h =
+      reflects-any (λ j. (i : ℕ) × (i < j) × ((On (tripleAt n r) i × On (tripleAt n r) j) × ((Border n P i j → ⊥) × (Shared n w (tripleAt n r) i j → ⊥)))) (λ j. any j (λ i. openAt l w r i j)) n
+      (λ j _. reflects-any (λ i. (On (tripleAt n r) i × On (tripleAt n r) j) × ((Border n P i j → ⊥) × (Shared n w (tripleAt n r) i j → ⊥))) (λ i. openAt l w r i j) j (λ i _. open-at r i j h))
+
+  pub open-decided : Reflects (OpenEdge l w) (openEdge l w)
+  unfolding openEdge
+  open-decided = reflects-iff (
+    λ (s, m, (j, _, (i, h, ((a, b), (c, d))))). (s, i, j, m, (h, a, b), c, λ (t, k, ne, (_, x, y)). d (t, k, (ne, x, y))),
+    λ (s, i, j, m, (h, a, b), c, d). (s, m, (j, on-low s 0 n j (listed-within n w s m .0) b .1, (i, h, ((a, b), (c, λ (t, k, (ne, x, y)). d (t, k, ne, (h, x, y))))))),
+  )
+      (reflects-listed n w OpenIn (λ r. any n (λ j. any j (λ i. openAt l w r i j))) open-in)
+
+  -- ---- the table
+
+  pub list-decided : refusalOf l ≡ 0 → Decides (listRules l w) (listLines l w)
+  list-decided ok = (refl, reflects-or past-decided flat-decided, (refl, empty-decided, (refl, cross-decided ok, (refl, open-decided, tt))))
+
+  -- ---- the published theorem
+
+  some-listed : (NoTriple l w → ⊥) → (s : List ℕ) × Listed n w s
+  some-listed = decided-stable (listed-decided n w)
+
+  -- an edge that is not open
+  closed : (OpenEdge l w → ⊥) → (s : List ℕ) → Listed n w s → (i j : ℕ) → Edge i j s → Border n P i j ⊎ ((t : List ℕ) × Listed n w t × (t ≡ s → ⊥) × Edge i j t)
+  closed none s m i j e = go (border-decided i j) (shared-decided n w (m .0) i j (m .1))
+    where
+      go : {a b : Bool} → Reflects (Border n P i j) a → Reflects (Shared n w (tripleAt n (m .0)) i j) b → Border n P i j ⊎ ((t : List ℕ) × Listed n w t × (t ≡ s → ⊥) × Edge i j t)
+      go (holds h) q = inl h
+      go (fails h) (holds (t, k, (ne, x, y))) = inr (t, k, λ q. ne (q ∙ sym (m .3)), (e .0, x, y))
+      go (fails h) (fails q) = absurd (none (s, i, j, m, e, h, λ (t, k, ne, (_, x, y)). q (t, k, (λ u. ne (u ∙ m .3), x, y))))
+
+  pub accepted-iff-triangulation : Clear (listLines l w) ↔ ((PastLast l w → ⊥) × Triangulation n P (Listed n w))
+  accepted-iff-triangulation = (into, out)
+    where
+      into : Clear (listLines l w) → (PastLast l w → ⊥) × Triangulation n P (Listed n w)
+      into (seven, (ten, (eight, (nine, _)))) = (λ p. seven (inl p), record {
+        triples = listed-within n w;
+        some = some-listed ten;
+        full = λ s m h. seven (inr (s, m, h));
+        ip = λ s t m k c. eight (s, t, m, k, c);
+        up = closed nine;
+      })
+
+      out : (PastLast l w → ⊥) × Triangulation n P (Listed n w) → Clear (listLines l w)
+      out (p, g) = (
+        ⊎-elim p (λ (s, m, h). g .full s m h),
+        (
+          λ none. none (g .some),
+          (
+            λ (s, t, m, k, c). g .ip s t m k c,
+            (λ (s, i, j, m, e, b, o). ⊎-elim b o (g .up s m i j e), tt),
+          ),
+        ),
+      )

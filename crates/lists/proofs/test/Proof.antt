@@ -1,0 +1,99 @@
+-- `lists::test` meets its contract: the chain stops at the run, at the list, or accepts.
+use mathlib.Core.Path.{_≡_, sym, _∙_, ap}
+use mathlib.Core.List.{List, []}
+use Prim.Native.Nat.{ℕ, _≤_}
+use native.Mathlib.Omega.{arith}
+use borrow.Author.Needs.{needs}
+use lib.IntN.{ℤ}
+use Rattle.algebra.specs.Answer.{Answer, gives, refuses, chain}
+use Rattle.algebra.proofs.AnswerLaws.{chain-stop, chain-after}
+use Rattle.shots.specs.Sizes.{shotsMost}
+use Rattle.shots.specs.Patch.{countOf}
+use Rattle.shots.specs.Tests.{Near, refusalOf}
+use Rattle.shots.proofs.Patch.{patch-near, patch-few}
+use Rattle.shots.proofs.Chains.{shots-refused, shots-passed}
+use Rattle.lists.specs.Tests.{wordsOf, listRules, listRefusalOf}
+use Rattle.lists.specs.Calls.{testOf}
+use Rattle.lists.proofs.test.Statement.{statement}
+use Rattle.lists.proofs.test.Tie as tie
+
+-- the list's own part of the chain; `r` is what the callee gave
+module _ (l : List ℤ) (w : List ℕ) {r : ℕ} (e : r ≡ listRefusalOf l w) where
+  list-refused : (r ≡ 0 → ⊥) → _≡_ {A = Answer (Unit {0})} (refuses r) (chain (listRules l w) tt)
+  unfolding listRefusalOf
+  list-refused h = ap refuses e ∙ chain-stop (listRules l w) [] tt (λ z. h (e ∙ z))
+
+  list-passed : r ≡ 0 → _≡_ {A = Answer (Unit {0})} (gives tt) (chain (listRules l w) tt)
+  unfolding listRefusalOf chain
+  list-passed h = chain-after (listRules l w) [] tt (omega arith, (omega arith, (omega arith, (omega arith, tt)))) (sym e ∙ h)
+
+returns : tie.Need-returns
+unfolding testOf
+returns c = let a = c .before .before .args in shots-refused (a .shots .now) (listRules (a .shots .now) (wordsOf (a .list))) tt (c .before .refusal .ensures) (c .if1 .taken)
+
+-- the places of the calls before
+abbrev accepted : tie.After-inner → tie.Else1
+accepted i = i .before .before .before .before .before .before
+
+abbrev prepared : tie.After-solid → tie.After-prepare
+prepared s = s .before .before .before .before .before .before .before
+
+abbrev solids : tie.After-refusal2 → tie.After-solid
+solids n = n .before .before .before .before
+
+patch : (d : tie.Else1) → let l = d .before .before .args .shots .now in Near l × (countOf l ≤ shotsMost)
+patch d = let l = d .before .before .args .shots .now in let e : refusalOf l ≡ 0 = sym (d .before .refusal .ensures) ∙ d .if1 .left in (patch-near l e, patch-few l e .1)
+
+prepare-requires : tie.Need-prepare-requires
+prepare-requires c κs = let h = patch (accepted c) in (h .0, h .1, omega arith, omega arith, omega arith, omega arith, omega arith, omega arith)
+
+solid-requires : tie.Need-solid-requires
+solid-requires c κs = patch (accepted (c .before .before .before .before .before .before .before))
+
+refusal-requires-2 : tie.Need-refusal-requires-2
+refusal-requires-2 c κs =
+    let s = c .before .before .before in
+    let p = prepared s in
+    let h = patch (accepted (p .before)) in
+    let q = p .prepare .ensures .1 in
+    let k = p .prepare .kept .1 .1 .1 .1 in
+    (h .1, s .solid .ensures, p .prepare .ensures .0, omega (arith, k .0), omega (arith, k .1 .0), omega (arith, k .1 .1 .0), q .over-plus, q .over-minus, q .edges)
+
+returns-2 : tie.Need-returns-2
+unfolding testOf
+returns-2 c =
+    let n = c .before in
+    let d = accepted (prepared (solids n) .before) in
+    let a = d .before .before .args in
+    let w = wordsOf (a .list) in
+    list-refused (a .shots .now) w (n .refusal2 .ensures) (c .if2 .taken) ∙ shots-passed (a .shots .now) (listRules (a .shots .now) w) tt (d .before .refusal .ensures) (d .if1 .left)
+
+returns-3 : tie.Need-returns-3
+unfolding testOf
+returns-3 c =
+    let n = c .before in
+    let d = accepted (prepared (solids n) .before) in
+    let a = d .before .before .args in
+    let w = wordsOf (a .list) in
+    list-passed (a .shots .now) w (n .refusal2 .ensures) (c .if2 .left) ∙ shots-passed (a .shots .now) (listRules (a .shots .now) w) tt (d .before .refusal .ensures) (d .if1 .left)
+
+pub test-spec : {M : Type 1} → statement M
+test-spec =
+    tie.close
+    (tie.spec
+    (λ c κs. search needs)
+    returns
+    (λ c. search needs)
+    (λ c. search needs)
+    (λ c. search needs)
+    (λ c. search needs)
+    (λ c. search needs)
+    (λ c. search needs)
+    prepare-requires
+    solid-requires
+    (λ c. search needs)
+    (λ c. search needs)
+    (λ c. search needs)
+    refusal-requires-2
+    returns-2
+    returns-3)

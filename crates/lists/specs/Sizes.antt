@@ -1,0 +1,11 @@
+-- The sizes of this room; src/lib.rt has the same as constants.
+--
+--   wordCount      the words of a list
+--   triplesMost    the triples of the largest patch
+use Prim.Native.Nat.{ℕ}
+
+abbrev pub wordCount : ℕ
+wordCount = 2
+
+abbrev pub triplesMost : ℕ
+triplesMost = 120

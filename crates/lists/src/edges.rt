@@ -1,0 +1,82 @@
+// The inner triples of each pair of shots, and the open edges of a list.
+ghost use mathlib.Core.Path.{_≡_};
+ghost use Prim.Native.Nat.{_*_, _≤_, _<_};
+ghost use lib.ListN.{length};
+ghost use Rattle.algebra.specs.Loops.{any};
+ghost use Rattle.algebra.specs.Words.{bothOf, aloneOf, rowOf};
+ghost use Rattle.shots.specs.Sizes.{shotsMost};
+ghost use Rattle.shots.specs.Patch.{countOf};
+ghost use Rattle.shots.specs.Tests.{Near};
+ghost use Rattle.lists.specs.Sizes.{wordCount};
+ghost use Rattle.lists.specs.Tests.{wordsOf};
+ghost use Rattle.lists.specs.Held.{innerOf, innerRow, Holding, Inner, InnerWith};
+use super::Triples;
+use super::rows;
+use super::sets;
+use shots::SHOTS_MOST;
+
+// The triples that hold the pair i, j; none where it is a border pair.
+fn inner(shots: &[i32], held: &[u64], i: usize, j: usize) -> Triples
+    requires { ⌜ (i < j) × (j < countOf (now shots)) × Near (now shots) × (countOf (now shots) ≤ shotsMost) × (wordCount * countOf (now shots) ≤ length (now held)) × Holding (countOf (now shots)) (now held) ⌝ }
+    ensures { λ t. ⌜ wordsOf t ≡ innerOf (now (shots .entry)) i j ⌝ }
+{
+    if shots::pairs::is_border(shots, i, j) {
+        return sets::none();
+    }
+    sets::both(rows::row_at(held, i), rows::row_at(held, j))
+}
+
+// The rows of the pairs with j as the larger shot.
+fn fill_with(shots: &[i32], held: &[u64], j: usize, out: &mut [u64])
+    requires { ⌜ (j < countOf (now shots)) × Near (now shots) × (countOf (now shots) ≤ shotsMost) × (wordCount * countOf (now shots) ≤ length (now held)) × Holding (countOf (now shots)) (now held) × (wordCount * shotsMost * shotsMost ≤ length (now out)) ⌝ }
+    ensures { λ r. ⌜ InnerWith (now (shots .entry)) j j (now (out .entry)) (now (out .exit)) ⌝ }
+{
+    let mut i = 0;
+    while i < j {
+        rows::put_row(out, SHOTS_MOST * j + i, inner(shots, held, i, j));
+        i += 1;
+    }
+}
+
+// The rows of all pairs.
+pub fn fill(shots: &[i32], held: &[u64], out: &mut [u64])
+    requires { ⌜ Near (now shots) × (countOf (now shots) ≤ shotsMost) × (wordCount * countOf (now shots) ≤ length (now held)) × Holding (countOf (now shots)) (now held) × (wordCount * shotsMost * shotsMost ≤ length (now out)) ⌝ }
+    ensures { λ r. ⌜ (length (now (out .exit)) ≡ length (now (out .entry))) × Inner (now (shots .entry)) (now (out .exit)) ⌝ }
+{
+    let n = shots.len() / 2;
+    let mut j = 0;
+    while j < n {
+        fill_with(shots, held, j, out);
+        j += 1;
+    }
+}
+
+// Whether an edge to j from a smaller shot is open: exactly one triple of the list is among its inner triples.
+fn open_with(inner: &[u64], j: usize, list: Triples) -> bool
+    requires { ⌜ (j < shotsMost) × (wordCount * shotsMost * shotsMost ≤ length (now inner)) ⌝ }
+    ensures { λ r. ⌜ r ≡ any j (λ i. aloneOf (bothOf (wordsOf list) (rowOf wordCount (now (inner .entry)) (innerRow i j)))) ⌝ }
+{
+    let mut i = 0;
+    while i < j {
+        if sets::alone(sets::both(list, rows::row_at(inner, SHOTS_MOST * j + i))) {
+            return true;
+        }
+        i += 1;
+    }
+    false
+}
+
+// Whether an edge of the list is open.
+pub fn open(inner: &[u64], n: usize, list: Triples) -> bool
+    requires { ⌜ (n ≤ shotsMost) × (wordCount * shotsMost * shotsMost ≤ length (now inner)) ⌝ }
+    ensures { λ r. ⌜ r ≡ any n (λ j. any j (λ i. aloneOf (bothOf (wordsOf list) (rowOf wordCount (now (inner .entry)) (innerRow i j))))) ⌝ }
+{
+    let mut j = 0;
+    while j < n {
+        if open_with(inner, j, list) {
+            return true;
+        }
+        j += 1;
+    }
+    false
+}
