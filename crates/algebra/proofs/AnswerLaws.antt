@@ -3,9 +3,11 @@
 --   chain-refuses   a chain answers the number n exactly when n's line holds and no earlier one does
 --   chain-gives     it gives its value exactly when no line holds
 --   chain-refuses-upon, chain-gives-upon    the same where its second part is decided only if no line of the first part holds
+--   given-refused   a value is no refusal
 --   one-answer      two answers with one reading are one answer
 --   chain-broken, chain-kept, chain-stop, chain-after    what a sequence of tests in the code says of its chain
 --   refusal-keeps   where the number of the first broken rule is 0, the rules are kept
+--   clear-refusal   and it is 0 exactly when no line holds
 --   decides-append, first-append, clear-append    tables joined
 --   reflects-*      tests that decide what is made of statements
 --   is-minus, is-nought, is-plus    the tests of a sign
@@ -30,10 +32,10 @@ given-refused {A} {X} {v} {n} e = let z : _≡_ {A = ℕ} 0 1 = cc in absurd (cl
     clash : _≡_ {A = ℕ} 0 1 → ⊥
     clash z = omega arith
 
-pub refuses-one : {A : Type 0} {m n : ℕ} → _≡_ {A = Answer A} (refuses m) (refuses n) → m ≡ n
+refuses-one : {A : Type 0} {m n : ℕ} → _≡_ {A = Answer A} (refuses m) (refuses n) → m ≡ n
 refuses-one e = cc
 
-pub gives-one : {A : Type 0} {v w : A} → gives v ≡ gives w → v ≡ w
+gives-one : {A : Type 0} {v w : A} → gives v ≡ gives w → v ≡ w
 gives-one e = cc
 
 -- an answer is known by its reading, where the reading can be undone
@@ -140,6 +142,21 @@ refusal-keeps r rs p h = go (r .broken) refl
         clash z = omega arith
     go false e = (e, rw e at h)
 
+-- no line holds where that number is 0
+pub clear-refusal : (rs : List Rule) (ls : List Line) → Numbered rs → Decides rs ls → (refusal rs ≡ 0) ↔ Clear ls
+unfolding refusal
+clear-refusal [] [] p d = (λ e. tt, λ c. refl)
+clear-refusal [] (l ∷ ls) p d = absurd d
+clear-refusal (r ∷ rs) [] p d = absurd d
+clear-refusal (r ∷ rs) (l ∷ ls) p d = go (r .broken) (d .1) (clear-refusal rs ls (p .1) (d .2))
+  where
+    clash : r .number ≡ 0 → ⊥
+    clash e = omega (arith, p .0)
+
+    go : (b : Bool) → Reflects (l .when) b → (refusal rs ≡ 0) ↔ Clear ls → (cond b (r .number) (refusal rs) ≡ 0) ↔ Clear (l ∷ ls)
+    go true (holds h) ih = (λ e. absurd (clash e), λ c. absurd (c .0 h))
+    go false (fails h) ih = (λ e. (h, ih .0 e), λ c. ih .1 (c .1))
+
 -- lines joined: the first of the one list, or none there and the first of the other
 pub first-append : (n : ℕ) (ks ls : List Line) → First n (ks ++ ls) ↔ (First n ks ⊎ (Clear ks × First n ls))
 first-append n [] ls = (λ f. inr (tt, f), out)
@@ -193,6 +210,11 @@ reflects-false (fails h) k = refl
 pub reflects-by : {A : Type 0} (b : Bool) → (b ≡ true → A) → (b ≡ false → A → ⊥) → Reflects A b
 reflects-by true f g = holds (f refl)
 reflects-by false f g = fails (g refl)
+
+-- a decided statement that is not false holds
+pub reflects-stable : {A : Type 0} {b : Bool} → Reflects A b → ((A → ⊥) → ⊥) → A
+reflects-stable (holds h) k = h
+reflects-stable (fails h) k = absurd (k h)
 
 -- two tests of one statement
 pub reflects-agree : {A : Type 0} {a b : Bool} → Reflects A a → Reflects A b → a ≡ b

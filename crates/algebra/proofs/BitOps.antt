@@ -1,7 +1,6 @@
 -- The bits of one number: what and, or, not and a shift do to each of them, and setting and clearing one.
 --
 --   bit-and, bit-or, bit-not     the bits of what the machine's operations give; not within a width of w bits
---   bit-pow, bit-high            the bits of 2 ^ k; no bit from w on in a number of w bits
 --   bits-same                    numbers of w bits with the same bits are the same
 --   one-shl                      1 shifted by k
 --   or-set, and-clear            a bit is set by an or, cleared by an and with all bits but that one
@@ -114,10 +113,10 @@ bit-not (suc w) y (suc j) h l =
 pow-above : (m j : ℕ) → 2 ^ (suc m + j) / 2 ^ j % 2 ≡ 0
 pow-above m j = ap (λ (x : ℕ). x / 2 ^ j % 2) (pow-add 2 (suc m) j) ∙ ap (λ (x : ℕ). x % 2) (shl-shr (2 ^ suc m) j) ∙ omega (arith, pow-suc 2 m)
 
-pub bit-high : (w x j : ℕ) → x < 2 ^ w → w ≤ j → bit x j ≡ false
+bit-high : (w x j : ℕ) → x < 2 ^ w → w ≤ j → bit x j ≡ false
 bit-high w x j h l = bit-zero x j (ap (λ (y : ℕ). y % 2) (div-eq-of-lt (let p = pow-mono l in omega arith)))
 
-pub bit-pow : (k j : ℕ) → bit (2 ^ k) j ≡ eqb j k
+bit-pow : (k j : ℕ) → bit (2 ^ k) j ≡ eqb j k
 bit-pow k j = go (decLt j k) (decLt k j)
   where
     go : Dec (j < k) → Dec (k < j) → bit (2 ^ k) j ≡ eqb j k

@@ -1,13 +1,12 @@
 -- The laws of a commutative ring that the kit's ℤ (`lib.IntN`) lacks.
 --
---   ℤ-steps               induction by successor and predecessor
 --   +ℤ-left-comm, +ℤ-swap, *ℤ-assoc, *ℤ-left-comm, *ℤ-add-l, *ℤ-add-r, *ℤ-neg-l, *ℤ-neg-r, one-*ℤ
 use mathlib.Core.Path.{_≡_, sym, _∙_, ap}
 use Prim.Native.Nat.{zero, suc}
 use lib.IntN.{ℤ, pos, negsuc, negℤ, _+ℤ_, _*ℤ_, sucℤ, predℤ, one, +ℤ-assoc, +ℤ-comm, +ℤ-idr, *ℤ-comm, *ℤ-one, zero-*ℤ, sucℤ-*ℤ, predℤ-*ℤ, negℤ-+ℤ, negℤ-negℤ, +ℤ-sucℤ, +ℤ-predℤ, negℤ-sucℤ, negℤ-predℤ}
 
 -- induction by successor and predecessor
-pub ℤ-steps : (P : ℤ → Type 0) → P (pos zero) → ((k : ℤ) → P k → P (sucℤ k)) → ((k : ℤ) → P k → P (predℤ k)) → (k : ℤ) → P k
+ℤ-steps : (P : ℤ → Type 0) → P (pos zero) → ((k : ℤ) → P k → P (sucℤ k)) → ((k : ℤ) → P k → P (predℤ k)) → (k : ℤ) → P k
 ℤ-steps P z s p (pos zero) = z
 ℤ-steps P z s p (pos (suc n)) = s (pos n) (ℤ-steps P z s p (pos n))
 ℤ-steps P z s p (negsuc zero) = p (pos zero) z

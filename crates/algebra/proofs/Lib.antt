@@ -12,4 +12,5 @@ pub mod SetLaws
 pub mod BitLaws
 pub mod BitOps
 pub mod SetTests
+pub mod UnionLaws
 pub mod WordLaws

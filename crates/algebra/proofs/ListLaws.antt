@@ -2,10 +2,14 @@
 --
 --   getD-mem, mem-getD    what stands at a place is in the list, and what is in the list stands at a place
 --   Apart R xs            an earlier and a later member of xs are always related by R
---   apart-append, apart-at    joined lists; the members at two places
-use mathlib.Core.Path.{_≡_, refl, sym}
+--   apart-append, apart-at, apart-more    joined lists; the members at two places; related by more
+--   Other x y             x and y are different; `apart-map`: the members of a mapped list are
+--   kept f xs             those of xs that pass f
+--   kept-in, kept-out, kept-apart    what is in it; its members are different where those of xs are
+use mathlib.Core.Path.{_≡_, refl, sym, _∙_, ap}
 use mathlib.Core.Logic.{_⊎_, inl, inr, ⊎-elim}
-use mathlib.Core.List.{List, [], _∷_, _++_, List·Memᴰ, List·Memᴰ·head, List·Memᴰ·tail, List·Memᴰ·cases-cons, List·Memᴰ·append-cases, List·Memᴰ·not-nil}
+use mathlib.Core.Bool.{Bool, true, false, cond, false≢true}
+use mathlib.Core.List.{List, [], _∷_, _++_, map, List·Memᴰ, List·Memᴰ·head, List·Memᴰ·tail, List·Memᴰ·cases-cons, List·Memᴰ·append-cases, List·Memᴰ·not-nil, Memᴰ·of-map}
 use Prim.Native.Nat.{ℕ, zero, suc, _<_}
 use native.Mathlib.Omega.{arith}
 use native.Mathlib.Nat.{not-suc-le-zero}
@@ -43,3 +47,49 @@ module _ {A : Type 0} where
     apart-at (x ∷ xs) d i zero p h l = absurd (not-suc-le-zero h)
     apart-at (x ∷ xs) d zero (suc j) p h l = p .0 (getD xs j d) (getD-mem xs d j (omega arith))
     apart-at (x ∷ xs) d (suc i) (suc j) p h l = apart-at xs d i j (p .1) (omega arith) (omega arith)
+
+pub apart-more : {A : Type 0} (R Q : A → A → Type 0) (xs : List A) → ((x y : A) → R x y → Q x y) → Apart R xs → Apart Q xs
+apart-more R Q [] h p = tt
+apart-more R Q (x ∷ xs) h p = (λ y m. h x y (p .0 y m), apart-more R Q xs h (p .1))
+
+-- ---- lists whose members are all different
+
+abbrev pub Other : {A : Type 0} → A → A → Type 0
+Other x y = x ≡ y → ⊥
+
+pub apart-map : {A B : Type 0} (f : A → B) (xs : List A) → Apart Other xs → ((x y : A) → List·Memᴰ x xs → List·Memᴰ y xs → f x ≡ f y → x ≡ y) → Apart Other (map f xs)
+apart-map f [] p h = tt
+apart-map f (x ∷ xs) p h =
+    (λ v m e. let (y, k, q) = Memᴰ·of-map f xs m in p .0 y k (h x y (List·Memᴰ·head refl) (List·Memᴰ·tail k) (e ∙ sym q)), apart-map f xs (p .1) (λ y z m k. h y z (List·Memᴰ·tail m) (List·Memᴰ·tail k)))
+
+-- those of a list that pass a test
+abbrev pub kept : {A : Type 0} → (A → Bool) → List A → List A
+kept f [] = []
+kept f (x ∷ xs) = cond (f x) (x ∷ kept f xs) (kept f xs)
+
+module _ {A : Type 0} (f : A → Bool) where
+  pub kept-out : (x : A) (xs : List A) → List·Memᴰ x (kept f xs) → List·Memᴰ x xs × (f x ≡ true)
+  kept-out x [] m = absurd (List·Memᴰ·not-nil m)
+  kept-out x (y ∷ xs) m = go (f y) refl (kept-out x xs) m
+    where
+      go : (b : Bool) → f y ≡ b → (List·Memᴰ x (kept f xs) → List·Memᴰ x xs × (f x ≡ true)) → List·Memᴰ x (cond b (y ∷ kept f xs) (kept f xs)) → List·Memᴰ x (y ∷ xs) × (f x ≡ true)
+      go true e ih m = ⊎-elim (λ q. (List·Memᴰ·head q, ap f q ∙ e)) (λ k. let r = ih k in (List·Memᴰ·tail (r .0), r .1)) (List·Memᴰ·cases-cons m)
+      go false e ih m = let r = ih m in (List·Memᴰ·tail (r .0), r .1)
+
+  pub kept-in : (x : A) (xs : List A) → List·Memᴰ x xs → f x ≡ true → List·Memᴰ x (kept f xs)
+  kept-in x [] m e = absurd (List·Memᴰ·not-nil m)
+  kept-in x (y ∷ xs) m e = go (f y) refl (λ k. kept-in x xs k e) (List·Memᴰ·cases-cons m)
+    where
+      go : (b : Bool) → f y ≡ b → (List·Memᴰ x xs → List·Memᴰ x (kept f xs)) → (x ≡ y) ⊎ List·Memᴰ x xs → List·Memᴰ x (cond b (y ∷ kept f xs) (kept f xs))
+      go true q ih (inl h) = List·Memᴰ·head h
+      go true q ih (inr k) = List·Memᴰ·tail (ih k)
+      go false q ih (inl h) = absurd (false≢true (sym q ∙ ap f (sym h) ∙ e))
+      go false q ih (inr k) = ih k
+
+  pub kept-apart : (xs : List A) → Apart Other xs → Apart Other (kept f xs)
+  kept-apart [] p = tt
+  kept-apart (x ∷ xs) p = go (f x) (kept-apart xs (p .1))
+    where
+      go : (b : Bool) → Apart Other (kept f xs) → Apart Other (cond b (x ∷ kept f xs) (kept f xs))
+      go true q = (λ y m. p .0 y (kept-out y xs m .0), q)
+      go false q = q

@@ -1,24 +1,30 @@
--- What a loop wants of `any`, `every`, `first`, `fold`, `tally` and `tabulate`: where it begins, one turn more, where it ends.
+-- What a loop wants of `any`, `every`, `first`, `fold`, `tally` and `tabulate`: where it begins, one turn more, where it ends; and laws of `anyOf` and `sumOf`.
 --
+--   last, or-parts, and-parts                a number below suc n; what two tests joined say of each
 --   any-none, go-on, found, none             a loop that looks for one that passes
 --   every-none, every-on, every-broken, every-end   a loop that looks for one that does not pass
 --   first-none, first-on, first-found, first-end    a loop that looks for the first that passes
 --   fold-none, fold-more, fold-end           a loop that builds a value
 --   tally-none, tally-more, tally-end        a loop that counts
+--   tally-same, tally-add, tally-zero        sums of functions that agree, of two functions, of none
+--   tally-single, tally-below                a sum with a term at one place only; a bound for each term
 --   length-tabulate, getD-tabulate           how long a table is, and what stands at a place of it
 --   tabulate-same                            tables of functions that agree below the bound
 --   fill-none, fill-more, fill-end           a loop that fills an array with a table, from l₀ on
+--   any-some, any-no, every-at               one that passes; a number where none passes, where each does
+--   reflects-test                            a test decides that it holds
 --   reflects-any, reflects-every             `any` and `every` decide that some number below the bound, that each of them has the property
 --   reflects-lone                            exactly one number below the bound passes
 --   any-same, every-same                     tests that agree below the bound
 --   any-last, any-add                        a bound in two parts
 --   every-not                                none passes where every one does not
---   reflects-anyOf                           `anyOf` decides that some member of a list has the property
+--   reflects-anyOf, anyOf-map                `anyOf` decides that some member of a list has the property; over a mapped list
+--   sum-map, sum-append, sum-same            `sumOf` over a mapped list, over two lists joined, of functions that agree on the list
 --   first-passes, first-least                what `first` finds
 use mathlib.Core.Path.{_≡_, refl, sym, _∙_, ap, subst}
 use mathlib.Core.Bool.{Bool, true, false, cond, not, _||_, _&&_, true≢false, or-false, or-assoc}
 use mathlib.Core.Logic.{_⊎_, inl, inr, ⊎-elim}
-use mathlib.Core.List.{List, [], _∷_, _++_, append-assoc, append-nil, List·Memᴰ, List·Memᴰ·head, List·Memᴰ·tail, List·Memᴰ·cases-cons, List·Memᴰ·not-nil}
+use mathlib.Core.List.{List, [], _∷_, _++_, map, append-assoc, append-nil, List·Memᴰ, List·Memᴰ·head, List·Memᴰ·tail, List·Memᴰ·cases-cons, List·Memᴰ·not-nil}
 use Prim.Native.Nat.{ℕ, zero, suc, _+_, _*_, _<_, _≤_}
 use native.Mathlib.Omega.{arith}
 use native.Mathlib.Numerals.{add-one}
@@ -29,7 +35,7 @@ use lib.ListN.{length, getD, drop, set, length-append, drop-of-length-le, List·
 use lib.Seq.{drop-cons, set-at, getD-at}
 use borrow.Author.Tests.{lt-ltb, le-ltb, eqb-true, eqb-false}
 use Rattle.algebra.specs.Answer.{Reflects, holds, fails}
-use Rattle.algebra.specs.Loops.{any, every, anyOf, first, fold, tally, tabulate}
+use Rattle.algebra.specs.Loops.{any, every, anyOf, first, fold, tally, sumOf, tabulate}
 use Rattle.algebra.proofs.AnswerLaws.{reflects-by, reflects-yes, reflects-no, reflects-true, reflects-iff, reflects-not, reflects-or, reflects-and, reflects-eqb}
 
 -- below suc n: below n, or n itself
@@ -67,7 +73,7 @@ module _ (f : ℕ → Bool) where
   unfolding any
   any-none = refl
 
-  pub any-yes : (n i : ℕ) → i < n → f i ≡ true → any n f ≡ true
+  any-yes : (n i : ℕ) → i < n → f i ≡ true → any n f ≡ true
   unfolding any
   any-yes zero i h p = absurd (not-suc-le-zero h)
   any-yes (suc n) i h p = ⊎-elim (λ k. or-left (any n f) (f n) (any-yes n i k p)) (λ e. or-right (any n f) (f n) (ap f (sym e) ∙ p)) (last i n h)
@@ -141,7 +147,7 @@ module _ (f : ℕ → Bool) where
   unfolding every
   every-none = refl
 
-  pub every-yes : (n : ℕ) → ((i : ℕ) → i < n → f i ≡ true) → every n f ≡ true
+  every-yes : (n : ℕ) → ((i : ℕ) → i < n → f i ≡ true) → every n f ≡ true
   unfolding every
   every-yes zero h = refl
   every-yes (suc n) h = and-yes (every n f) (f n) (every-yes n (λ i l. h i (omega arith))) (h n (omega arith))
@@ -218,6 +224,23 @@ reflects-anyOf {A} P f (x ∷ xs) h = reflects-iff (into, out) (reflects-or (h x
 
     out : (y : A) × List·Memᴰ y (x ∷ xs) × P y → P x ⊎ ((y : A) × List·Memᴰ y xs × P y)
     out r = ⊎-elim (λ e. inl (subst P e (r .2))) (λ m. inr (r .0, m, r .2)) (List·Memᴰ·cases-cons (r .1))
+
+pub anyOf-map : {A B : Type 0} (f : B → Bool) (g : A → B) (xs : List A) → anyOf f (map g xs) ≡ anyOf (λ x. f (g x)) xs
+unfolding anyOf
+anyOf-map f g [] = refl
+anyOf-map f g (x ∷ xs) = ap (λ (b : Bool). f (g x) || b) (anyOf-map f g xs)
+
+pub sum-map : {A B : Type 0} (f : B → ℕ) (g : A → B) (xs : List A) → sumOf f (map g xs) ≡ sumOf (λ x. f (g x)) xs
+sum-map f g [] = refl
+sum-map f g (x ∷ xs) = ap (λ (k : ℕ). f (g x) + k) (sum-map f g xs)
+
+pub sum-append : {A : Type 0} (f : A → ℕ) (xs ys : List A) → sumOf f (xs ++ ys) ≡ sumOf f xs + sumOf f ys
+sum-append f [] ys = omega arith
+sum-append f (x ∷ xs) ys = omega (arith, sum-append f xs ys)
+
+pub sum-same : {A : Type 0} (f g : A → ℕ) (xs : List A) → ((x : A) → List·Memᴰ x xs → f x ≡ g x) → sumOf f xs ≡ sumOf g xs
+sum-same f g [] h = refl
+sum-same f g (x ∷ xs) h = rw (h x (List·Memᴰ·head refl), sum-same f g xs (λ y m. h y (List·Memᴰ·tail m))) refl
 
 -- ---- first
 
@@ -314,6 +337,33 @@ module _ (f : ℕ → ℕ) where
   unfolding tally
   tally-below zero k h = omega arith
   tally-below (suc n) k h = let a = tally-below n k (λ i l. h i (omega arith)) in let b = h n (omega arith) in omega arith
+
+pub tally-same : (f g : ℕ → ℕ) (n : ℕ) → ((i : ℕ) → i < n → f i ≡ g i) → tally n f ≡ tally n g
+unfolding tally
+tally-same f g zero h = refl
+tally-same f g (suc n) h = rw (tally-same f g n (λ i l. h i (omega arith)), h n (omega arith)) refl
+
+pub tally-add : (f g : ℕ → ℕ) (n : ℕ) → tally n (λ i. f i + g i) ≡ tally n f + tally n g
+unfolding tally
+tally-add f g zero = refl
+tally-add f g (suc n) = let e = tally-add f g n in omega arith
+
+pub tally-zero : (f : ℕ → ℕ) (n : ℕ) → ((i : ℕ) → i < n → f i ≡ 0) → tally n f ≡ 0
+unfolding tally
+tally-zero f zero h = refl
+tally-zero f (suc n) h = rw (tally-zero f n (λ i l. h i (omega arith)), h n (omega arith)) refl
+
+-- only one place has a term
+pub tally-single : (f : ℕ → ℕ) (n r : ℕ) → r < n → ((i : ℕ) → i < n → (i ≡ r → ⊥) → f i ≡ 0) → tally n f ≡ f r
+unfolding tally
+tally-single f zero r l h = absurd (not-suc-le-zero l)
+tally-single f (suc n) r l h = ⊎-elim (λ k. before k (tally-single f n r k (λ i j ne. h i (omega arith) ne))) here (last r n l)
+  where
+    before : r < n → tally n f ≡ f r → tally n f + f n ≡ f r
+    before k e = let z = h n (omega arith) (λ q. let j : n ≡ r = q in omega arith) in omega arith
+
+    here : r ≡ n → tally n f + f n ≡ f r
+    here e = let z = tally-zero f n (λ i j. h i (omega arith) (λ q. let u : i ≡ r = q in omega arith)) in let q = ap f e in omega arith
 
 -- ---- tabulate
 

@@ -125,7 +125,8 @@ module _ (ρ : List ℤ) where
   mcmp-eq (i ∷ a) [] t = absurd t
   mcmp-eq (i ∷ a) (j ∷ b) t = go (compare i j) (eqb→eq i j) (mcmp-eq a b) t
     where
-      go : (o : Ordering) → (T (isEq o) → i ≡ j) → (T (isEq (mcmp a b)) → mon a ≡ mon b) → T (isEq (elim o [ Ordering·lt ↦ Ordering·lt | Ordering·eq ↦ mcmp a b | Ordering·gt ↦ Ordering·gt ])) → at ρ i *ℤ mon a ≡ at ρ j *ℤ mon b
+      go : (o : Ordering) → (T (isEq o) → i ≡ j) → (T (isEq (mcmp a b)) → mon a ≡ mon b)
+          → T (isEq (elim o [ Ordering·lt ↦ Ordering·lt | Ordering·eq ↦ mcmp a b | Ordering·gt ↦ Ordering·gt ])) → at ρ i *ℤ mon a ≡ at ρ j *ℤ mon b
       go Ordering·lt e h t = absurd t
       go Ordering·eq e h t = rw (e tt, h t) refl
       go Ordering·gt e h t = absurd t
@@ -139,7 +140,8 @@ module _ (ρ : List ℤ) where
   addGo-ok c m p f h nil = sym (+ℤ-idr (c *ℤ mon m +ℤ pev p))
   addGo-ok c m p f h (tm d n q) = pick-ok (tm c m (f (tm d n q))) (tm (c +ℤ d) m (f q)) (tm d n (addGo c m p f q)) ((c *ℤ mon m +ℤ pev p) +ℤ (d *ℤ mon n +ℤ pev q)) (mcmp m n)
       (ap (λ x. c *ℤ mon m +ℤ x) (h (tm d n q)) ∙ sym (+ℤ-assoc (c *ℤ mon m) (pev p) (d *ℤ mon n +ℤ pev q)))
-      (λ t. ap (λ x. (c +ℤ d) *ℤ mon m +ℤ x) (h q) ∙ ap (λ x. x +ℤ (pev p +ℤ pev q)) (*ℤ-add-l c d (mon m)) ∙ +ℤ-swap (c *ℤ mon m) (d *ℤ mon m) (pev p) (pev q) ∙ ap (λ x. (c *ℤ mon m +ℤ pev p) +ℤ (d *ℤ x +ℤ pev q)) (mcmp-eq m n t))
+      (λ t. ap (λ x. (c +ℤ d) *ℤ mon m +ℤ x) (h q) ∙ ap (λ x. x +ℤ (pev p +ℤ pev q)) (*ℤ-add-l c d (mon m)) ∙ +ℤ-swap (c *ℤ mon m) (d *ℤ mon m) (pev p) (pev q)
+      ∙ ap (λ x. (c *ℤ mon m +ℤ pev p) +ℤ (d *ℤ x +ℤ pev q)) (mcmp-eq m n t))
       (ap (λ x. d *ℤ mon n +ℤ x) (addGo-ok c m p f h q) ∙ +ℤ-left-comm (d *ℤ mon n) (c *ℤ mon m +ℤ pev p) (pev q))
 
   addP-ok : (p q : Pol) → pev (addP p q) ≡ pev p +ℤ pev q

@@ -122,7 +122,9 @@ run-on a (suc k) (j ∷ s) w = go (ℕ-discrete a j) (λ v. run-on (suc a) k s v
   where
     go : Dec (a ≡ j) → (Within (suc a) s (suc a + k) → run (one (λ i. isOn i s)) (suc a) k ≡ s) → (Within (suc a) (j ∷ s) (suc a + k) → run (one (λ i. isOn i (j ∷ s))) (suc a) k ≡ j ∷ s)
         → one (λ i. isOn i (j ∷ s)) a ++ run (one (λ i. isOn i (j ∷ s))) (suc a) k ≡ j ∷ s
-    go (yes e) f g = rw (eq-eqb a j e) (ap (λ (l : List ℕ). a ∷ l) (run-same (λ i. isOn i (j ∷ s)) (λ i. isOn i s) (suc a) k (λ i h l. rw (ne-eqb i j (λ q. apart h q e)) refl) ∙ f (within-cast s (omega arith) (omega arith) (w .2))) ∙ ap (λ (i : ℕ). i ∷ s) e)
+    go (yes e) f g =
+        rw (eq-eqb a j e) (ap (λ (l : List ℕ). a ∷ l) (run-same (λ i. isOn i (j ∷ s)) (λ i. isOn i s) (suc a) k (λ i h l. rw (ne-eqb i j (λ q. apart h q e)) refl)
+        ∙ f (within-cast s (omega arith) (omega arith) (w .2))) ∙ ap (λ (i : ℕ). i ∷ s) e)
       where
         apart : {i : ℕ} → suc a ≤ i → i ≡ j → a ≡ j → ⊥
         apart h q e = omega arith

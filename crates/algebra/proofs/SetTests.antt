@@ -1,18 +1,20 @@
 -- Tests of increasing lists as sets, how many numbers they hold, and the places of such lists among all of one length.
 --
 --   reflects-on, reflects-same, reflects-all-on    the tests `isOn`, `sameList` and `allOn` decide what they say
+--   mem-on                                         the members of a list are the numbers that are on it
 --   isOn-picks, picks-within                       the numbers that pass a test, as a set
---   on-low                                         the numbers of a list are within its bounds
+--   on-low, numbers-apart                          the numbers of a list are within its bounds, and they are different
 --   set-same                                       increasing lists with the same numbers are the same
 --   on-union, on-dropped, union-within, dropped-within    unions, and lists with a number left out
 --   mask-on                                        every bit of the mask of s is in t: every number of s is
 --   length-within, subset-length, subset-same      how many numbers fit; a part is no longer, and as long only where it is all
+--   mem-sets, sets-apart                           the lists of k of the numbers below n; they are different
 --   set-at, place-in, place-at                     the lists of k of the numbers below n, and their places: the two are inverse
---   place-order, place-lex                         the places go by the lexicographic order
+--   place-lex                                      the places go by the lexicographic order
 use mathlib.Core.Path.{_≡_, refl, sym, _∙_, ap, subst}
 use mathlib.Core.Logic.{inl, inr, ⊎-elim, _↔_}
 use mathlib.Core.Bool.{Bool, true, false, not, cond, _||_, _&&_, false≢true, or-false, and-true, and-false}
-use mathlib.Core.List.{List, [], _∷_, _++_, append-nil, List·Memᴰ, List·Memᴰ·head, List·Memᴰ·cases-cons, List·Memᴰ·not-nil, List·Memᴰ·eq-of-singleton}
+use mathlib.Core.List.{List, [], _∷_, _++_, append-nil, List·Memᴰ, List·Memᴰ·head, List·Memᴰ·tail, List·Memᴰ·cases-cons, List·Memᴰ·not-nil, List·Memᴰ·eq-of-singleton}
 use Prim.Native.Nat.{ℕ, zero, suc, _+_, _-_, _<_, _≤_}
 use native.Mathlib.Omega.{arith}
 use native.Mathlib.Decide.{decLt, ℕ-discrete}
@@ -25,7 +27,7 @@ use Rattle.algebra.specs.Loops.{picks, every}
 use Rattle.algebra.specs.Sets.{isOn, On, allOn, sameList, union, dropped, Within, Lex, maskOf, bit, setsOf, placeOf}
 use Rattle.algebra.proofs.AnswerLaws.{reflects-true, reflects-false, reflects-agree, reflects-iff, reflects-and, reflects-eqb}
 use Rattle.algebra.proofs.LoopLaws.{every-same, reflects-every, reflects-test}
-use Rattle.algebra.proofs.ListLaws.{Apart, getD-mem, apart-at}
+use Rattle.algebra.proofs.ListLaws.{Apart, Other, getD-mem, apart-at, apart-more}
 use Rattle.algebra.proofs.SetLaws.{lex-same, nest-in, nest-out, nest-apart, picks-on, picks-same}
 use Rattle.algebra.proofs.BitLaws.{bit-mask}
 
@@ -59,6 +61,14 @@ on-none : (i : ℕ) → On [] i → ⊥
 unfolding isOn
 on-none i h = false≢true h
 
+-- the members of a list are the numbers that are on it
+pub mem-on : (i : ℕ) (s : List ℕ) → List·Memᴰ i s ↔ On s i
+mem-on i [] = (λ m. absurd (List·Memᴰ·not-nil m), λ o. absurd (on-none i o))
+mem-on i (j ∷ s) = (
+  λ m. ⊎-elim (λ e. subst (On (j ∷ s)) (sym e) (on-head j s)) (λ n. on-tail i j s (mem-on i s .0 n)) (List·Memᴰ·cases-cons m),
+  λ o. on-cases i j s o List·Memᴰ·head (λ p. List·Memᴰ·tail (mem-on i s .1 p)),
+)
+
 pub on-low : (s : List ℕ) (a n i : ℕ) → Within a s n → On s i → (a ≤ i) × (i < n)
 on-low [] a n i w h = absurd (on-none i h)
 on-low (j ∷ s) a n i w h = on-cases i j s h (here (w .0) (w .1)) (λ o. there (w .0) (on-low s (j + 1) n i (w .2) o))
@@ -68,6 +78,10 @@ on-low (j ∷ s) a n i w h = on-cases i j s h (here (w .0) (w .1)) (λ o. there 
 
     there : a ≤ j → (j + 1 ≤ i) × (i < n) → (a ≤ i) × (i < n)
     there p q = omega arith
+
+pub numbers-apart : (s : List ℕ) (a n : ℕ) → Within a s n → Apart Other s
+numbers-apart [] a n w = tt
+numbers-apart (i ∷ s) a n w = (λ j m e. let l = on-low s (i + 1) n j (w .2) (mem-on j s .0 m) .0 in omega arith, numbers-apart s (i + 1) n (w .2))
 
 pub set-same : (s t : List ℕ) (n : ℕ) → Within 0 s n → Within 0 t n → ((i : ℕ) → i < n → isOn i s ≡ isOn i t) → s ≡ t
 set-same s t n v w h = sym (picks-on s n v) ∙ picks-same (λ i. isOn i s) (λ i. isOn i t) n h ∙ picks-on t n w
@@ -157,7 +171,7 @@ pub mask-on : (n : ℕ) (s t : List ℕ) → Within 0 s n → every n (λ i. not
 mask-on n s t w =
     every-same (λ i. not (bit (maskOf s) i) || isOn i t) (λ i. not (isOn i s) || isOn i t) n (λ i l. ap (λ (b : Bool). not b || isOn i t) (bit-mask i n s w))
     ∙ reflects-agree (reflects-every (λ i. On s i → On t i) (λ i. not (isOn i s) || isOn i t) n (λ i l. implies (isOn i s) (isOn i t)))
-      (reflects-iff (λ h i l. h i, λ h i o. h i (on-low s 0 n i w o .1) o) (reflects-all-on s t))
+    (reflects-iff (λ h i l. h i, λ h i o. h i (on-low s 0 n i w o .1) o) (reflects-all-on s t))
   where
     implies : (a b : Bool) → Reflects (a ≡ true → b ≡ true) (not a || b)
     implies true true = holds (λ e. refl)
@@ -240,18 +254,25 @@ lex-apart k n =
     nest-apart Lex k (λ s. s ∷ []) 0 n (λ s w e. (λ y m. absurd (List·Memᴰ·not-nil m), tt))
     (λ s t v w e q o x y m m′. subst (λ (a : List ℕ). Lex a y) (sym (List·Memᴰ·eq-of-singleton m)) (subst (Lex s) (sym (List·Memᴰ·eq-of-singleton m′)) o))
 
+pub sets-apart : (k n : ℕ) → Apart Other (setsOf k n)
+sets-apart k n = apart-more Lex Other (setsOf k n) (λ s t o e. lex-same s (subst (Lex s) (sym e) o)) (lex-apart k n)
+
+pub mem-sets : (k n : ℕ) (s : List ℕ) → List·Memᴰ s (setsOf k n) ↔ (Within 0 s n × (length s ≡ k))
+mem-sets k n s = (
+  λ m. let q = nest-out k (λ t. t ∷ []) 0 n m in subst (λ (t : List ℕ). Within 0 t n × (length t ≡ k)) (sym (List·Memᴰ·eq-of-singleton (q .3))) (q .1, q .2),
+  λ p. nest-in k (λ t. t ∷ []) 0 n s (p .0) (p .1) (List·Memᴰ·head refl),
+)
+
 pub set-at : (k n r : ℕ) → r < length (setsOf k n) → Within 0 (getD (setsOf k n) r []) n × (length (getD (setsOf k n) r []) ≡ k)
-set-at k n r h =
-    let q = nest-out k (λ s. s ∷ []) 0 n (getD-mem (setsOf k n) [] r h) in
-    subst (λ (s : List ℕ). Within 0 s n × (length s ≡ k)) (sym (List·Memᴰ·eq-of-singleton (q .3))) (q .1, q .2)
+set-at k n r h = mem-sets k n (getD (setsOf k n) r []) .0 (getD-mem (setsOf k n) [] r h)
 
 pub place-in : (k n : ℕ) (s : List ℕ) → Within 0 s n → length s ≡ k → (placeOf s (setsOf k n) < length (setsOf k n)) × (getD (setsOf k n) (placeOf s (setsOf k n)) [] ≡ s)
-place-in k n s w e = place-mem s (setsOf k n) (nest-in k (λ t. t ∷ []) 0 n s w e (List·Memᴰ·head refl))
+place-in k n s w e = place-mem s (setsOf k n) (mem-sets k n s .1 (w, e))
 
 pub place-at : (k n r : ℕ) → r < length (setsOf k n) → placeOf (getD (setsOf k n) r []) (setsOf k n) ≡ r
 place-at k n r h = place-apart Lex lex-same (setsOf k n) r (lex-apart k n) h
 
-pub place-order : (k n r q : ℕ) → r < q → q < length (setsOf k n) → Lex (getD (setsOf k n) r []) (getD (setsOf k n) q [])
+place-order : (k n r q : ℕ) → r < q → q < length (setsOf k n) → Lex (getD (setsOf k n) r []) (getD (setsOf k n) q [])
 place-order k n r q h l = apart-at Lex (setsOf k n) [] r q (lex-apart k n) h l
 
 lex-one-way : (s t : List ℕ) → Lex s t → Lex t s → ⊥

@@ -2,7 +2,7 @@
 --
 --   tri              which of the three
 --   pos-*, nn-*      sums and products; `pos-cast`, `nn-cast` along an equation
---   pos-zero, pos-np, neg-nn     the signs exclude one another
+--   pos-zero, neg-nn     the signs exclude one another
 --   mul-zero, zero-mul, both-zero, neg-zero     products, combinations and negatives that are 0
 --   *-of-mul         a factor taken away
 --   square-nn, square-pos, squares-zero
@@ -78,7 +78,7 @@ pos-zero h e = let z : _≡_ {A = ℤ} (pos (suc (h .by))) (pos 0) = sym (h .is)
     clash : (n : ℕ) → pos (suc n) ≡ pos 0 → ⊥
     clash n p = let q : _≡_ {A = ℕ} (suc n) 0 = cc in omega arith
 
-pub pos-np : {X : Type 0} {a : ℤ} → Pos a → NP a → X
+pos-np : {X : Type 0} {a : ℤ} → Pos a → NP a → X
 pos-np {X} {a} h k = pos-zero (pos-nn-add h k) (ring (a ∷ []) (var 0 ⊕ neg (var 0)) (cst (pos 0)) tt)
 
 pub neg-nn : {X : Type 0} {a : ℤ} → Neg a → NN a → X

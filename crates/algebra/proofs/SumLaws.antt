@@ -1,8 +1,7 @@
 -- Laws of finite sums.
 --
---   sum-cong, sum-lin, sum-none    the same terms; a linear combination; only noughts
+--   sum-cong, sum-lin              the same terms; a linear combination
 --   sum-lone                       one term at most is not nought
---   unit-on, unit-off, sum-unit    the unit vectors
 --   comb a b c d p q r s           p, q, r, s at four places, nought elsewhere
 --   comb-first, comb-second, comb-third, comb-fourth, comb-off, comb-joint    its values
 --   sum-comb, comb-under           its sum; it lives where f does
@@ -24,9 +23,10 @@ sum-cong (suc n) h = rw (sum-cong n h, h n) refl
 
 pub sum-lin : (n : ℕ) (a b : ℤ) (f g : ℕ → ℤ) → sum n (λ i. a *ℤ f i +ℤ b *ℤ g i) ≡ a *ℤ sum n f +ℤ b *ℤ sum n g
 sum-lin zero a b f g = ring (a ∷ b ∷ []) (cst (pos 0)) (var 0 ⊗ cst (pos 0) ⊕ var 1 ⊗ cst (pos 0)) tt
-sum-lin (suc n) a b f g = rw (sum-lin n a b f g) (ring (a ∷ b ∷ sum n f ∷ sum n g ∷ f n ∷ g n ∷ []) (var 0 ⊗ var 2 ⊕ var 1 ⊗ var 3 ⊕ (var 0 ⊗ var 4 ⊕ var 1 ⊗ var 5)) (var 0 ⊗ (var 2 ⊕ var 4) ⊕ var 1 ⊗ (var 3 ⊕ var 5)) tt)
+sum-lin (suc n) a b f g =
+    rw (sum-lin n a b f g) (ring (a ∷ b ∷ sum n f ∷ sum n g ∷ f n ∷ g n ∷ []) (var 0 ⊗ var 2 ⊕ var 1 ⊗ var 3 ⊕ (var 0 ⊗ var 4 ⊕ var 1 ⊗ var 5)) (var 0 ⊗ (var 2 ⊕ var 4) ⊕ var 1 ⊗ (var 3 ⊕ var 5)) tt)
 
-pub sum-none : (n : ℕ) (h : ℕ → ℤ) → ((m : ℕ) → m < n → h m ≡ pos 0) → sum n h ≡ pos 0
+sum-none : (n : ℕ) (h : ℕ → ℤ) → ((m : ℕ) → m < n → h m ≡ pos 0) → sum n h ≡ pos 0
 sum-none zero h e = refl
 sum-none (suc n) h e = rw (sum-none n h (λ m l. e m (omega arith)), e n (omega arith)) refl
 
@@ -48,21 +48,21 @@ sum-lone (suc n) i h l e = go (ℕ-discrete n i) (λ k. sum-lone n i h k (λ m j
         below : (n ≡ i → ⊥) → i < n
         below q = omega arith
 
-pub unit-on : (a : ℕ) → unit a a ≡ pos 1
+unit-on : (a : ℕ) → unit a a ≡ pos 1
 unit-on a = go (eqb a a) (eqb-refl a)
   where
     go : (b : Bool) → T b → cond b (pos 1) (pos 0) ≡ pos 1
     go true t = refl
     go false t = absurd t
 
-pub unit-off : (a i : ℕ) → (i ≡ a → ⊥) → unit a i ≡ pos 0
+unit-off : (a i : ℕ) → (i ≡ a → ⊥) → unit a i ≡ pos 0
 unit-off a i h = go (eqb i a) (eqb→eq i a)
   where
     go : (b : Bool) → (T b → i ≡ a) → cond b (pos 1) (pos 0) ≡ pos 0
     go true t = absurd (h (t tt))
     go false t = refl
 
-pub sum-unit : (n a : ℕ) (g : ℕ → ℤ) → a < n → sum n (λ i. unit a i *ℤ g i) ≡ g a
+sum-unit : (n a : ℕ) (g : ℕ → ℤ) → a < n → sum n (λ i. unit a i *ℤ g i) ≡ g a
 sum-unit n a g l = sum-lone n a (λ i. unit a i *ℤ g i) l (λ m k q. rw (unit-off a m q) (zero-*ℤ (g m))) ∙ rw (unit-on a) (one-*ℤ (g a))
 
 -- four places with their coefficients

@@ -7,6 +7,7 @@
 --   take-words, member-take, take-here, take-other     a number taken out
 --   both-words, either-words, less-words, member-both, member-either, member-less    sets made of two
 --   meets-reflects, inside-reflects, empty-reflects, alone-reflects    the tests decide what they say
+--   sift-all, both-member, meets-at, inside-at         the same with no bound on the numbers
 --   combined, meets-words, inside-words, empty-words   the same word by word, as the loops of the code go
 --   row-length, row-at, row-same, row-other, setRow-length     rows of a table
 --   Met w i met                  the words before word i hold exactly one number where met, and none where not
@@ -29,7 +30,8 @@ use Rattle.algebra.specs.Loops.{any, every, fold, picks, tabulate}
 use Rattle.algebra.specs.Sets.{bit, maskOf}
 use Rattle.algebra.specs.Words.{wordBits, setBit, clearBit, Words, member, putIn, takeOut, sift, bothOf, eitherOf, lessOf, meetsOf, insideOf, emptyOf, aloneOf, rowOf, setRow}
 use Rattle.algebra.proofs.AnswerLaws.{reflects-yes, reflects-no, reflects-true, reflects-false, reflects-iff, reflects-not, reflects-and}
-use Rattle.algebra.proofs.LoopLaws.{any-none, any-no, any-some, any-same, any-last, any-add, every-same, every-not, reflects-any, reflects-test, reflects-lone, length-tabulate, getD-tabulate, tabulate-same}
+use Rattle.algebra.proofs.LoopLaws.{and-parts, any-none, any-no, any-some, any-same, any-last, any-add, every-same, every-not, reflects-any, reflects-test, reflects-lone}
+use Rattle.algebra.proofs.LoopLaws.{length-tabulate, getD-tabulate, tabulate-same}
 use Rattle.algebra.proofs.SetTests.{isOn-picks, picks-within}
 use Rattle.algebra.proofs.BitLaws.{mask-below, bit-mask}
 use Rattle.algebra.proofs.BitOps.{bit-and, bits-same, bit-none, bit-set, bit-clear, set-low, clear-low, zero-bits, inside-bits, lone-bit}
@@ -230,6 +232,34 @@ pub alone-reflects : (v : List ℕ)
 unfolding aloneOf
 alone-reflects v = reflects-lone (member v) (wordBits * length v)
 
+-- ---- with no bound on the numbers
+
+words-low : (k : ℕ) (u : List ℕ) (r : ℕ) → Words k u → member u r ≡ true → r < wordBits * k
+words-low k u r v m = go (decLt r (wordBits * k))
+  where
+    go : Dec (r < wordBits * k) → r < wordBits * k
+    go (yes h) = h
+    go (no h) = absurd (true≢false (sym m ∙ member-past k u r v (omega arith)))
+
+pub sift-all : (k : ℕ) (f : ℕ → Bool) → ((r : ℕ) → f r ≡ true → r < wordBits * k) → (r : ℕ) → member (sift k f) r ≡ f r
+sift-all k f h r = go (decLt r (wordBits * k)) (f r) refl
+  where
+    go : Dec (r < wordBits * k) → (b : Bool) → f r ≡ b → member (sift k f) r ≡ f r
+    go (yes l) b e = member-sift k f r l
+    go (no l) true e = absurd (l (h r e))
+    go (no l) false e = member-past k (sift k f) r (sift-words k f) (omega arith) ∙ sym e
+
+module _ (k : ℕ) (u w : List ℕ) (v : Words k u) where
+  pub both-member : (r : ℕ) → member (bothOf u w) r ≡ (member u r && member w r)
+  unfolding bothOf
+  both-member r = sift-all (length u) (λ s. member u s && member w s) (λ s e. words-low (length u) u s (refl, v .1) (and-parts (member u s) (member w s) e .0)) r
+
+  pub meets-at : Reflects ((r : ℕ) × (member u r ≡ true) × (member w r ≡ true)) (meetsOf u w)
+  meets-at = reflects-iff (λ q. (q .0, q .2, q .3), λ q. (q .0, words-low (length u) u (q .0) (refl, v .1) (q .1), q .1, q .2)) (meets-reflects u w)
+
+  pub inside-at : Reflects ((r : ℕ) → member u r ≡ true → member w r ≡ true) (insideOf u w)
+  inside-at = reflects-iff (λ h r e. h r (words-low (length u) u r (refl, v .1) e) e, λ h r l e. h r e) (inside-reflects u w)
+
 -- ---- word by word
 
 -- an operation on words that goes bit by bit makes the set that goes member by member
@@ -264,7 +294,7 @@ meets-words k v w p q =
         ap not (zero-bits wordBits (bitAnd (getD v i 0) (getD w i 0)) (and-lt wordBits (getD v i 0) (getD w i 0) (p .1 i) (q .1 i)))
         ∙ Bool·not-not (any wordBits (bit (bitAnd (getD v i 0) (getD w i 0))))
         ∙ any-same (bit (bitAnd (getD v i 0) (getD w i 0))) (λ j. member v (wordBits * i + j) && member w (wordBits * i + j)) wordBits
-          (λ j l. bit-and (getD v i 0) (getD w i 0) j ∙ (λ n. bit-member v i j l n && bit-member w i j l n))
+        (λ j l. bit-and (getD v i 0) (getD w i 0) j ∙ (λ n. bit-member v i j l n && bit-member w i j l n))
 
 pub inside-words : (k : ℕ) (v w : List ℕ) → Words k v → Words k w → every k (λ i. eqb (bitAnd (getD v i 0) (getD w i 0)) (getD v i 0)) ≡ insideOf v w
 unfolding insideOf
@@ -277,7 +307,7 @@ inside-words k v w p q =
     at i =
         inside-bits wordBits (getD v i 0) (getD w i 0) (p .1 i)
         ∙ ap not (any-same (λ j. bit (getD v i 0) j && not (bit (getD w i 0) j)) (λ j. member v (wordBits * i + j) && not (member w (wordBits * i + j))) wordBits
-          (λ j l. λ n. bit-member v i j l n && not (bit-member w i j l n)))
+        (λ j l. λ n. bit-member v i j l n && not (bit-member w i j l n)))
 
 pub empty-words : (k : ℕ) (v : List ℕ) → Words k v → every k (λ i. eqb (getD v i 0) 0) ≡ emptyOf v
 unfolding emptyOf

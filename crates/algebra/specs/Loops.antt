@@ -6,6 +6,7 @@
 --   first n f      the least i < n that passes f, and n where none does
 --   fold f a n     a, then f 0 of it, then f 1, .. , then f (n - 1)
 --   tally n f      f 0 + f 1 + .. + f (n - 1)
+--   sumOf f xs     f of each member of xs, summed
 --   picks n f      the i < n that pass f, in order
 --   tabulate n f   f 0, f 1, .. , f (n - 1)
 --   run f a k      f a ++ f (a + 1) ++ .. , k lists
@@ -40,6 +41,10 @@ fold f a (suc n) = f n (fold f a n)
 unfoldable pub tally : ℕ → (ℕ → ℕ) → ℕ
 tally zero f = 0
 tally (suc n) f = tally n f + f n
+
+abbrev pub sumOf : {A : Type 0} → (A → ℕ) → List A → ℕ
+sumOf f [] = 0
+sumOf f (x ∷ xs) = f x + sumOf f xs
 
 unfoldable pub picks : ℕ → (ℕ → Bool) → List ℕ
 picks zero f = []

@@ -1,19 +1,26 @@
 -- Every proved case of document 01 holds, by computation on the definitions that the contracts cite.
 use mathlib.Core.Path.{_≡_, refl}
 use mathlib.Core.List.{map}
-use Rattle.algebra.specs.Answer.{chain}
-use Rattle.algebra.specs.Loops.{any, tally, tabulate, run, over}
+use Rattle.algebra.specs.Answer.{chain, refusal}
+use Rattle.algebra.specs.Loops.{any, anyOf, first, fold, picks, tally, tabulate, run, over}
 use Rattle.algebra.specs.Sign.{signOf, opposite, value}
+use Rattle.algebra.specs.Sets.{isOn, allOn, sameList, union, dropped, maskOf, bit, nest, placeOf}
+use Rattle.algebra.specs.Words.{setBit, member, putIn, sift}
 use Rattle.shots.specs.Coordinates.{xOf, yOf, areaOf}
-use Rattle.shots.specs.Patch.{orientOf, betweenOf}
+use Rattle.shots.specs.Patch.{orientOf, betweenOf, someLeft, someRight, borderOf}
 use Rattle.shots.specs.Tests.{badCount, farAt, someFar, sameAt, sameBefore, someSame, bentAt, bentOf, bentBefore, someBent}
 use Rattle.shots.specs.Calls.{orientationOf, signAt, cocircuitOf}
 use Rattle.circuits.specs.Sides.{side, split}
-use Rattle.algebra.specs.Sets.{maskOf}
 use Rattle.circuits.specs.Numbered.{oneIf, three, threesWith, threesFrom, threes, four, foursUpon, foursWith, foursFrom, fours, circuitsOf}
 use Rattle.circuits.specs.Calls.{countCallOf, circuitCallOf}
+use Rattle.triples.specs.Ranks.{tripleCount, tripleAt, rankOf}
+use Rattle.lists.specs.Tests.{isFlat, pastLast, someFlat, isEmpty, sidesIn, crosses, crossing, shared, openAt, openEdge, listRefusalOf}
+use Rattle.lists.specs.Calls.{testOf}
+use Rattle.surfaces.specs.Flips.{listed, supportOf, piecesOf, completes, someLink, mixedLinks, supports, joins, exchanged, flippedOf}
+use Rattle.surfaces.specs.Placing.{firstOff, beginOf, thirdIn, loneThird, visible, withEdge, withEdges, placeShot, placeNext, placedOf}
+use Rattle.surfaces.specs.Calls.{placingOf, flipOf}
 use Rattle.cases.specs.Table.{Case, replyTo, table}
 
 pub cases-right : map (λ (c : Case). replyTo (c .patch) (c .asked)) table ≡ map (λ (c : Case). c .stated) table
-unfolding chain any tally tabulate run over signOf opposite value xOf yOf areaOf orientOf betweenOf badCount farAt someFar sameAt sameBefore someSame bentAt bentOf bentBefore someBent orientationOf signAt cocircuitOf side split maskOf oneIf three threesWith threesFrom threes four foursUpon foursWith foursFrom fours circuitsOf countCallOf circuitCallOf
+unfolding chain any tally tabulate run over signOf opposite value xOf yOf areaOf orientOf betweenOf badCount farAt someFar sameAt sameBefore someSame bentAt bentOf bentBefore someBent orientationOf signAt cocircuitOf side split maskOf oneIf three threesWith threesFrom threes four foursUpon foursWith foursFrom fours circuitsOf countCallOf circuitCallOf refusal anyOf first fold picks isOn allOn sameList union dropped bit nest placeOf setBit member putIn sift someLeft someRight borderOf tripleCount tripleAt rankOf isFlat pastLast someFlat isEmpty sidesIn crosses crossing shared openAt openEdge listRefusalOf testOf listed supportOf piecesOf completes someLink mixedLinks supports joins exchanged flippedOf firstOff beginOf thirdIn loneThird visible withEdge withEdges placeShot placeNext placedOf placingOf flipOf
 cases-right = refl

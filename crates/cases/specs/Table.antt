@@ -4,35 +4,50 @@
 --   Reply         an answer: a value or the number that refuses
 --   replyTo l q   what the call answers, by the definition that its contract cites
 --   Case, table   the cases
+--   triples ts    the words of a list of triples
 --   square        shots 0 (0,0), 1 (2,0), 2 (2,2), 3 (0,2), 4 (1,1)
 --
 -- Theorem: proofs/Cases (`cases-right`).
 use mathlib.Core.List.{List, [], _∷_}
 use Prim.Native.Nat.{ℕ}
 use lib.IntN.{ℤ, pos, negsuc}
-use Rattle.algebra.specs.Answer.{Answer, gives}
+use Rattle.algebra.specs.Answer.{Answer, gives, refuses}
 use Rattle.shots.specs.Calls.{Cocircuit, orientationOf, cocircuitOf}
+use lib.ListN.{replicate}
+use Rattle.algebra.specs.Words.{putIn}
 use Rattle.circuits.specs.declared.Sides.{Sides}
 use Rattle.circuits.specs.Sides.{masks}
 use Rattle.circuits.specs.Calls.{countCallOf, circuitCallOf}
+use Rattle.triples.specs.Sizes.{wordCount}
+use Rattle.triples.specs.Ranks.{rankOf}
+use Rattle.lists.specs.Calls.{testOf}
+use Rattle.surfaces.specs.Calls.{placingOf, flipOf}
 
 pub data Question : Type 0 where
   orientation : ℕ → ℕ → ℕ → Question
   cocircuit : ℕ → ℕ → Question
   circuits : Question
   circuit : ℕ → Question
+  test : List ℕ → Question
+  placing : Question
+  flip : List ℕ → ℕ → Question
 
 pub data Reply : Type 0 where
   sign : Answer ℤ → Reply
   signs : Cocircuit → Reply
   count : Answer ℕ → Reply
   sides : Answer Sides → Reply
+  tested : Answer (Unit {0}) → Reply
+  surface : Answer (List ℕ) → Reply
 
 abbrev pub replyTo : List ℤ → Question → Reply
 replyTo l (orientation a b c) = sign (orientationOf l a b c)
 replyTo l (cocircuit i j) = signs (cocircuitOf l i j)
 replyTo l circuits = count (countCallOf l)
 replyTo l (circuit z) = sides (circuitCallOf l z)
+replyTo l (test w) = tested (testOf l w)
+replyTo l placing = surface (placingOf l)
+replyTo l (flip w z) = surface (flipOf l w z)
 
 pub record Case : Type 0 where
   pub patch : List ℤ
@@ -60,6 +75,27 @@ five a b c d e = signs (record { answer = gives tt; signs = a ∷ b ∷ c ∷ d 
 abbrev _against_ : List ℕ → List ℕ → Reply
 _against_ p m = sides (gives (masks (record { plus = p; minus = m })))
 
+-- a list of triples of the five shots, as its words
+abbrev pub triples : List (List ℕ) → List ℕ
+triples [] = replicate wordCount 0
+triples (t ∷ ts) = putIn (triples ts) (rankOf 5 t)
+
+abbrev tri : ℕ → ℕ → ℕ → List ℕ
+tri i j k = i ∷ j ∷ k ∷ []
+
+abbrev accepted : Reply
+accepted = tested (gives tt)
+
+abbrev refused : ℕ → Reply
+refused n = tested (refuses n)
+
+-- the two halves of the square on one diagonal, and on the other
+abbrev halves : List ℕ
+halves = triples (tri 0 1 2 ∷ tri 0 2 3 ∷ [])
+
+abbrev others : List ℕ
+others = triples (tri 0 1 3 ∷ tri 1 2 3 ∷ [])
+
 abbrev of-square : Question → Reply → Case
 of-square q r = record { patch = square; asked = q; stated = r }
 
@@ -73,4 +109,14 @@ table =
     ∷ of-square (circuit 0) (_against_ (0 ∷ 2 ∷ []) (4 ∷ []))
     ∷ of-square (circuit 1) (_against_ (1 ∷ 3 ∷ []) (4 ∷ []))
     ∷ of-square (circuit 2) (_against_ (0 ∷ 2 ∷ []) (1 ∷ 3 ∷ []))
+    ∷ of-square (test halves) accepted
+    ∷ of-square (test (triples (tri 0 1 2 ∷ []))) (refused 9)
+    ∷ of-square (test (triples (tri 0 1 2 ∷ tri 0 2 3 ∷ tri 0 1 3 ∷ []))) (refused 8)
+    ∷ of-square (test (triples (tri 0 1 2 ∷ tri 0 3 4 ∷ tri 2 3 4 ∷ []))) (refused 8)
+    ∷ of-square (test (triples [])) (refused 10)
+    ∷ of-square (test (triples (tri 0 2 4 ∷ []))) (refused 7)
+    ∷ of-square (flip halves 2) (surface (gives others))
+    ∷ of-square (flip halves 1) (surface (refuses 13))
+    ∷ of-square (flip halves 3) (surface (refuses 12))
+    ∷ of-square placing (surface (gives halves))
     ∷ []

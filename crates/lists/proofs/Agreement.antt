@@ -43,10 +43,10 @@ use Rattle.circuits.proofs.SideLaws.{relative, signOn, on-side}
 use Rattle.circuits.proofs.Sources.{sources, Made, made}
 use Rattle.circuits.proofs.Signs.{sign-in, sides-within}
 use Rattle.circuits.proofs.Agreement.{circuit-published, published-numbered}
-use Rattle.lists.specs.Ranks.{tripleCount, tripleAt, rankOf}
+use Rattle.triples.specs.Ranks.{tripleCount, tripleAt, rankOf}
 use Rattle.lists.specs.Tests.{isFlat, pastLast, someFlat, isEmpty, sidesIn, crosses, crossing, shared, openAt, openEdge, listRules}
 use Rattle.lists.specs.Lines.{Listed, PastLast, FlatTriple, NoTriple, Cross, OpenEdge, listLines}
-use Rattle.lists.proofs.RankLaws.{triple-at-within, rank-of-triple}
+use Rattle.triples.proofs.RankLaws.{triple-at-within, rank-of-triple}
 
 -- a decided statement that is not false holds
 decided-stable : {A : Type 0} {b : Bool} → Reflects A b → ((A → ⊥) → ⊥) → A
@@ -122,7 +122,7 @@ unfolding split
 minus-on n z m i o =
     sign-in n z m i
     ∙ minus-side (m .first .sign) (signOn (m .first ∷ m .rest) i) (m .signed .0)
-      (sym (on-side (opposite (m .first .sign)) 0 n (m .first ∷ m .rest) i (opposite-signed (m .first .sign) ∙ m .signed .0) (m .within)) ∙ ap (λ (c : Circuit). isOn i (c .minus)) (sym (m .is)) ∙ o)
+    (sym (on-side (opposite (m .first .sign)) 0 n (m .first ∷ m .rest) i (opposite-signed (m .first .sign) ∙ m .signed .0) (m .within)) ∙ ap (λ (c : Circuit). isOn i (c .minus)) (sym (m .is)) ∙ o)
 
 module _ (l : List ℤ) (w : List ℕ) where
   abbrev n : ℕ
@@ -181,12 +181,18 @@ module _ (l : List ℤ) (w : List ℕ) where
 
   module _ (ok : refusalOf l ≡ 0) where
     in-crossing : (z : ℕ) × (z < length (circuitsOf l)) × InTriples z → Cross l w
-    in-crossing (z, h, (s, m, (t, k, (a, b)))) = (s, t, m, k, record {
-      by = signIn (circuitAt l z);
-      circuit = circuit-published l ok z h;
-      left = λ i _ e. a i (plus-on (circuitAt l z) i .1 e);
-      right = λ i _ e. b i (on-minus (circuitAt l z) i e);
-    })
+    in-crossing (z, h, (s, m, (t, k, (a, b)))) = (
+      s,
+      t,
+      m,
+      k,
+      record {
+        by = signIn (circuitAt l z);
+        circuit = circuit-published l ok z h;
+        left = λ i _ e. a i (plus-on (circuitAt l z) i .1 e);
+        right = λ i _ e. b i (on-minus (circuitAt l z) i e);
+      },
+    )
 
     -- the signs of the crossing are those of the numbered circuit; or they are turned, and the two triples change places
     module _ (s t : List ℕ) (m : Listed n w s) (k : Listed n w t) (c : Crossing n P (On s) (On t)) (z : ℕ) (h : z < length (circuitsOf l)) where
@@ -268,13 +274,16 @@ module _ (l : List ℤ) (w : List ℕ) where
   accepted-iff-triangulation = (into, out)
     where
       into : Clear (listLines l w) → (PastLast l w → ⊥) × Triangulation n P (Listed n w)
-      into (seven, (ten, (eight, (nine, _)))) = (λ p. seven (inl p), record {
-        triples = listed-within n w;
-        some = some-listed ten;
-        full = λ s m h. seven (inr (s, m, h));
-        ip = λ s t m k c. eight (s, t, m, k, c);
-        up = closed nine;
-      })
+      into (seven, (ten, (eight, (nine, _)))) = (
+        λ p. seven (inl p),
+        record {
+          triples = listed-within n w;
+          some = some-listed ten;
+          full = λ s m h. seven (inr (s, m, h));
+          ip = λ s t m k c. eight (s, t, m, k, c);
+          up = closed nine;
+        },
+      )
 
       out : (PastLast l w → ⊥) × Triangulation n P (Listed n w) → Clear (listLines l w)
       out (p, g) = (

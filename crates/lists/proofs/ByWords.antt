@@ -40,11 +40,12 @@ use Rattle.circuits.specs.Numbered.{circuitsOf}
 use Rattle.circuits.specs.Calls.{circuitAt}
 use Rattle.circuits.proofs.Sources.{sources, made}
 use Rattle.circuits.proofs.Signs.{sides-within}
-use Rattle.lists.specs.Sizes.{wordCount}
-use Rattle.lists.specs.Ranks.{tripleCount, tripleAt}
+use Rattle.triples.specs.Sizes.{wordCount}
+use Rattle.triples.specs.Ranks.{tripleCount, tripleAt}
 use Rattle.lists.specs.Tests.{isFlat, pastLast, someFlat, isEmpty, sidesIn, crosses, crossing, shared, openAt, openEdge, listRefusalOf}
-use Rattle.lists.specs.Held.{fullOf, holdersOf, maskOn, aroundOf, solidOf, innerOf, innerRow, AroundPlus, AroundMinus, Inner}
-use Rattle.lists.proofs.RankLaws.{triple-past, triples-few}
+use Rattle.triples.specs.Sets.{fullOf, holdersOf, maskOn, aroundOf}
+use Rattle.lists.specs.Held.{solidOf, innerOf, innerRow, AroundPlus, AroundMinus, Inner}
+use Rattle.triples.proofs.RankLaws.{triple-past, triples-few}
 
 -- ---- small laws
 
@@ -136,9 +137,9 @@ module _ (l : List ℤ) (w : List ℕ) (few : countOf l ≤ shotsMost) (v : Word
   by-solid =
       Bool·not-not (any (wordBits * length w) (λ r. member w r && not (member (solidOf l) r)))
       ∙ any-same (λ r. member w r && not (member (solidOf l) r)) (λ r. member w r && flat r) (wordBits * length w)
-        (λ r h. ap (λ (b : Bool). member w r && b) (ap not (member-solid l r (in-words h)) ∙ Bool·not-not (flat r)))
+      (λ r h. ap (λ (b : Bool). member w r && b) (ap not (member-solid l r (in-words h)) ∙ Bool·not-not (flat r)))
       ∙ reflects-agree (reflects-iff (into, out) (both-some (member w) flat (wordBits * length w)))
-        (reflects-or (both-some (λ r. leb last r) (member w) (wordBits * length w)) (both-some (member w) flat last))
+      (reflects-or (both-some (λ r. leb last r) (member w) (wordBits * length w)) (both-some (member w) flat last))
     where
       flat : ℕ → Bool
       flat r = isFlat l (tripleAt n r)
@@ -173,9 +174,10 @@ module _ (l : List ℤ) (w : List ℕ) (few : countOf l ≤ shotsMost) (v : Word
   pub around-meets : (s : List ℕ) → Within 0 s (countOf l)
       → Reflects ((r : ℕ) × (r < tripleCount (countOf l)) × (member w r ≡ true) × (allOn s (tripleAt (countOf l) r) ≡ true)) (meetsOf w (aroundOf (countOf l) (maskOf s) (fullOf (countOf l))))
   around-meets s h =
-      reflects-iff
-      (λ q. let p = and-parts (ltb (q .0) last) (allOn s (tripleAt n (q .0))) (sym (at (q .0) (in-words (q .1))) ∙ q .3) in (q .0, ltb-true (q .0) last (p .0), q .2, p .1),
-      λ q. (q .0, ranked (q .1), q .2, at (q .0) (in-words (ranked (q .1))) ∙ rw (lt-ltb (q .0) last (q .1)) (q .3)))
+      reflects-iff (
+        λ q. let p = and-parts (ltb (q .0) last) (allOn s (tripleAt n (q .0))) (sym (at (q .0) (in-words (q .1))) ∙ q .3) in (q .0, ltb-true (q .0) last (p .0), q .2, p .1),
+        λ q. (q .0, ranked (q .1), q .2, at (q .0) (in-words (ranked (q .1))) ∙ rw (lt-ltb (q .0) last (q .1)) (q .3)),
+      )
       (meets-reflects w (aroundOf n (maskOf s) (fullOf n)))
     where
       at : (r : ℕ) → r < wordBits * wordCount → member (aroundOf n (maskOf s) (fullOf n)) r ≡ (ltb r last && allOn s (tripleAt n r))
@@ -186,9 +188,10 @@ module _ (l : List ℤ) (w : List ℕ) (few : countOf l ≤ shotsMost) (v : Word
   unfolding crosses sidesIn
   by-around z p m =
       reflects-agree (reflects-and (around-meets (z .plus) p) (around-meets (z .minus) m))
-      (reflects-iff
-      (λ q. ((q .0, q .1, q .2, q .3 .3 .0), (q .3 .0, q .3 .1, q .3 .2, q .3 .3 .1)),
-      λ q. (q .0 .0, q .0 .1, q .0 .2, (q .1 .0, q .1 .1, q .1 .2, (q .0 .3, q .1 .3))))
+      (reflects-iff (
+        λ q. ((q .0, q .1, q .2, q .3 .3 .0), (q .3 .0, q .3 .1, q .3 .2, q .3 .3 .1)),
+        λ q. (q .0 .0, q .0 .1, q .0 .2, (q .1 .0, q .1 .1, q .1 .2, (q .0 .3, q .1 .3))),
+      )
       (pairs-some (λ r s. sidesIn z (tripleAt n r) (tripleAt n s)) (λ r s. (allOn (z .plus) (tripleAt n r) ≡ true) × (allOn (z .minus) (tripleAt n s) ≡ true))
       (λ r s. reflects-and (reflects-test (allOn (z .plus) (tripleAt n r))) (reflects-test (allOn (z .minus) (tripleAt n s))))))
     where
@@ -207,7 +210,7 @@ module _ (l : List ℤ) (w : List ℕ) (few : countOf l ≤ shotsMost) (v : Word
   by-crossing p m count f g e =
       ap (λ (k : ℕ). any k (λ z. meetsOf w (rowOf wordCount p z) && meetsOf w (rowOf wordCount m z))) e
       ∙ any-same (λ z. meetsOf w (rowOf wordCount p z) && meetsOf w (rowOf wordCount m z)) (λ z. crosses n w (circuitAt l z)) (length (circuitsOf l))
-        (λ z h. (λ k. meetsOf w (f z h k) && meetsOf w (g z h k)) ∙ (let s = sides z h in by-around (circuitAt l z) (s .0) (s .1)))
+      (λ z h. (λ k. meetsOf w (f z h k) && meetsOf w (g z h k)) ∙ (let s = sides z h in by-around (circuitAt l z) (s .0) (s .1)))
     where
       sides : (z : ℕ) → z < length (circuitsOf l) → Within 0 (circuitAt l z .plus) n × Within 0 (circuitAt l z .minus) n
       sides z h = sides-within n (circuitAt l z) (made l (sources l (getD-mem (circuitsOf l) (record { plus = []; minus = [] }) z h)))
@@ -224,9 +227,10 @@ module _ (l : List ℤ) (w : List ℕ) (few : countOf l ≤ shotsMost) (v : Word
 
   alone-lone : (i j : ℕ) → Reflects (Lone i j) (aloneOf (bothOf w (innerOf l i j)))
   alone-lone i j =
-      reflects-iff
-      (λ q. let h = out (q .0) (fits (q .1)) (q .2) in (q .0, on-ranked n (q .0) i (h .2), h, λ s u g. q .3 s (far u) (into s (ranked u) g)),
-      λ q. (q .0, far (q .1), into (q .0) (ranked (q .1)) (q .2), λ s u e. let h = out s (fits u) e in q .3 s (on-ranked n s i (h .2)) h))
+      reflects-iff (
+        λ q. let h = out (q .0) (fits (q .1)) (q .2) in (q .0, on-ranked n (q .0) i (h .2), h, λ s u g. q .3 s (far u) (into s (ranked u) g)),
+        λ q. (q .0, far (q .1), into (q .0) (ranked (q .1)) (q .2), λ s u e. let h = out s (fits u) e in q .3 s (on-ranked n s i (h .2)) h),
+      )
       (alone-reflects (bothOf w (innerOf l i j)))
     where
       fits : {r : ℕ} → r < wordBits * length (bothOf w (innerOf l i j)) → r < wordBits * length w
@@ -272,12 +276,12 @@ module _ (l : List ℤ) (w : List ℕ) (few : countOf l ≤ shotsMost) (v : Word
       any-same (λ j. any j (λ i. aloneOf (bothOf w (rowOf wordCount t (innerRow i j))))) (λ j. any j (λ i. aloneOf (bothOf w (innerOf l i j)))) n
       (λ j h. any-same (λ i. aloneOf (bothOf w (rowOf wordCount t (innerRow i j)))) (λ i. aloneOf (bothOf w (innerOf l i j))) j (λ i u. ap (λ (x : List ℕ). aloneOf (bothOf w x)) (f j h i u)))
       ∙ reflects-agree
-        (reflects-iff (into, out)
-        (reflects-any (λ j. (i : ℕ) × (i < j) × Lone i j) (λ j. any j (λ i. aloneOf (bothOf w (innerOf l i j)))) n
-        (λ j h. reflects-any (λ i. Lone i j) (λ i. aloneOf (bothOf w (innerOf l i j))) j (λ i u. alone-lone i j))))
-        (reflects-any (λ r. (member w r ≡ true) × ((j : ℕ) × (j < n) × ((i : ℕ) × (i < j) × Open r i j))) (λ r. member w r && any n (λ j. any j (λ i. openAt l w r i j))) last
-        (λ r h. reflects-and (reflects-test (member w r))
-        (reflects-any (λ j. (i : ℕ) × (i < j) × Open r i j) (λ j. any j (λ i. openAt l w r i j)) n (λ j u. reflects-any (λ i. Open r i j) (λ i. openAt l w r i j) j (λ i u′. open-at r i j)))))
+      (reflects-iff (into, out)
+      (reflects-any (λ j. (i : ℕ) × (i < j) × Lone i j) (λ j. any j (λ i. aloneOf (bothOf w (innerOf l i j)))) n
+      (λ j h. reflects-any (λ i. Lone i j) (λ i. aloneOf (bothOf w (innerOf l i j))) j (λ i u. alone-lone i j))))
+      (reflects-any (λ r. (member w r ≡ true) × ((j : ℕ) × (j < n) × ((i : ℕ) × (i < j) × Open r i j))) (λ r. member w r && any n (λ j. any j (λ i. openAt l w r i j))) last
+      (λ r h. reflects-and (reflects-test (member w r))
+      (reflects-any (λ j. (i : ℕ) × (i < j) × Open r i j) (λ j. any j (λ i. openAt l w r i j)) n (λ j u. reflects-any (λ i. Open r i j) (λ i. openAt l w r i j) j (λ i u′. open-at r i j)))))
     where
       A : Type 0
       A = (j : ℕ) × (j < n) × ((i : ℕ) × (i < j) × Lone i j)

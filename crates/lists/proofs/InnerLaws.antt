@@ -18,10 +18,11 @@ use Rattle.algebra.proofs.LoopLaws.{last}
 use Rattle.algebra.proofs.WordLaws.{sift-same, row-same, row-other, setRow-length}
 use Rattle.shots.specs.Sizes.{shotsMost}
 use Rattle.shots.specs.Patch.{countOf, borderOf}
-use Rattle.lists.specs.Sizes.{wordCount}
-use Rattle.lists.specs.Ranks.{tripleAt}
-use Rattle.lists.specs.Held.{holdersOf, innerOf, innerRow, InnerBelow, InnerWith}
-use Rattle.lists.proofs.SiftLaws.{none-sifted, both-sifted}
+use Rattle.triples.specs.Sizes.{wordCount}
+use Rattle.triples.specs.Ranks.{tripleAt}
+use Rattle.triples.specs.Sets.{holdersOf}
+use Rattle.lists.specs.Held.{innerOf, innerRow, InnerBelow, InnerWith}
+use Rattle.triples.proofs.SiftLaws.{none-sifted, both-sifted}
 
 module _ (l : List ℤ) (i j : ℕ) where
   pub inner-border : borderOf l i j ≡ true → replicate wordCount 0 ≡ innerOf l i j

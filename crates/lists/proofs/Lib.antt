@@ -1,10 +1,6 @@
-pub mod RankLaws
-pub mod TableLaws
 pub mod Agreement
 pub mod Promises
-pub mod SetLaws
-pub mod SiftLaws
 pub mod ByWords
-pub mod RowLaws
 pub mod SideRows
 pub mod InnerLaws
+pub mod Chains

@@ -10,22 +10,20 @@
 use mathlib.Core.Path.{_≡_, refl, sym, _∙_}
 use mathlib.Core.Logic.{_↔_}
 use mathlib.Core.Bool.{false, true≢false}
-use mathlib.Core.List.{List, []}
+use mathlib.Core.List.{List}
 use Prim.Native.Nat.{ℕ, _<_}
-use native.Mathlib.Decide.{ℕ-discrete}
 use lib.IntN.{ℤ}
 use Rattle.algebra.specs.Answer.{Answer, gives, refuses, First, Clear, Decides}
 use Rattle.algebra.specs.Words.{member}
-use Rattle.algebra.proofs.AnswerLaws.{given-refused, one-answer, chain-refuses-upon, chain-gives-upon, clear-append}
+use Rattle.algebra.proofs.AnswerLaws.{one-answer, clear-refusal, chain-refuses-upon, chain-gives-upon, clear-append}
 use Rattle.matroid.specs.Triangulations.{Triangulation}
 use Rattle.shots.specs.Coordinates.{pointOf}
 use Rattle.shots.specs.Patch.{countOf}
 use Rattle.shots.specs.Tests.{shotRules, refusalOf}
 use Rattle.shots.specs.Lines.{shotLines}
-use Rattle.shots.specs.Calls.{acceptOf}
-use Rattle.shots.proofs.Chains.{shots-refused}
-use Rattle.shots.proofs.Promises.{shots-decided, accept-gives}
-use Rattle.lists.specs.Ranks.{tripleCount}
+use Rattle.shots.proofs.Chains.{shots-numbered}
+use Rattle.shots.proofs.Promises.{shots-decided}
+use Rattle.triples.specs.Ranks.{tripleCount}
 use Rattle.lists.specs.Tests.{listRules}
 use Rattle.lists.specs.Lines.{Listed, PastLast, listLines, testLines}
 use Rattle.lists.specs.Calls.{readTested, testOf}
@@ -43,12 +41,8 @@ tested-back T.Accepted = refl
 tested-back (T.Refused n) = refl
 
 pub shots-kept : (l : List ℤ) → Clear (shotLines l) → refusalOf l ≡ 0
-unfolding acceptOf
-shots-kept l h = go (ℕ-discrete (refusalOf l) 0)
-  where
-    go : Dec (refusalOf l ≡ 0) → refusalOf l ≡ 0
-    go (yes e) = e
-    go (no e) = given-refused {A = Unit {0}} (sym (accept-gives l tt .1 (h, refl)) ∙ sym (shots-refused {A = Unit {0}} l [] tt refl e))
+unfolding refusalOf
+shots-kept l h = clear-refusal (shotRules l) (shotLines l) (shots-numbered l) (shots-decided l) .1 h
 
 module _ (l : List ℤ) (w : List ℕ) where
   decided : Clear (shotLines l) → Decides (listRules l w) (listLines l w)

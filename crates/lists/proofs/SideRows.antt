@@ -16,11 +16,12 @@ use Rattle.circuits.specs.Numbered.{circuitsOf}
 use Rattle.circuits.specs.Filled.{Filled, filled, pour}
 use Rattle.circuits.proofs.Bounds.{circuits-most}
 use Rattle.circuits.proofs.FilledLaws.{pour-lengths, poured-count, poured-at}
-use Rattle.lists.specs.Held.{fullOf, aroundOf, Rows, AroundPlus, AroundMinus, Sided}
+use Rattle.triples.specs.Sets.{fullOf, aroundOf, Rows}
+use Rattle.lists.specs.Held.{AroundPlus, AroundMinus, Sided}
 
 -- p₀ and m₀ are the arrays before, p and m those after
 module _ (l : List ℤ) (few : countOf l ≤ shotsMost) (p₀ m₀ p m : List ℕ) (r : ℕ) (h : circuitsMost ≤ length p₀) (k : circuitsMost ≤ length m₀)
-  (e : filled p m r ≡ pour (filled p₀ m₀ 0) (circuitsOf l)) where
+    (e : filled p m r ≡ pour (filled p₀ m₀ 0) (circuitsOf l)) where
   counted : r ≡ length (circuitsOf l)
   counted = poured-count p m p₀ m₀ r (circuitsOf l) e
 

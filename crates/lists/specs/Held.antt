@@ -1,13 +1,7 @@
 -- The sets of triples that are worked out once a call, by what they hold, and the arrays that they stand in.
 --
---   fullOf n            every triple
---   holdersOf n k       the triples that hold shot k
---   maskOn n x s        every shot of the mask x is in s
---   aroundOf n x w      those of w that hold every shot of the mask x
 --   solidOf l           the triples that are not flat
 --   innerOf l i j       the triples that hold i and j; none where they are a border pair
---   Rows t k f          row p of t holds f p, for each p below k
---   Holding n t         row k holds the holders of shot k
 --   Around l side t     row z holds the triples around a side of circuit z
 --   Inner l t           row `innerRow` i j holds the inner triples of i < j
 --   InnerWith l j k t u   u is t with the rows of the pairs i, j filled, for each i below k
@@ -15,35 +9,22 @@
 --
 -- That tests by these sets are those of document 01: proofs/ByWords.
 use mathlib.Core.Path.{_≡_}
-use mathlib.Core.Bool.{Bool, not, _||_, _&&_}
+use mathlib.Core.Bool.{not, _&&_}
 use mathlib.Core.List.{List}
 use Prim.Native.Nat.{ℕ, _+_, _*_, _<_}
-use lib.Dec.{ltb}
 use lib.ListN.{length, getD}
 use lib.IntN.{ℤ}
-use Rattle.algebra.specs.Loops.{every}
-use Rattle.algebra.specs.Sets.{isOn, bit}
-use Rattle.algebra.specs.Words.{member, sift, rowOf}
+use Rattle.algebra.specs.Sets.{isOn}
+use Rattle.algebra.specs.Words.{sift, rowOf}
 use Rattle.shots.specs.Sizes.{shotsMost}
 use Rattle.shots.specs.Patch.{countOf, borderOf}
 use Rattle.circuits.specs.Sides.{masks}
 use Rattle.circuits.specs.Numbered.{circuitsOf}
 use Rattle.circuits.specs.Calls.{circuitAt}
-use Rattle.lists.specs.Sizes.{wordCount}
-use Rattle.lists.specs.Ranks.{tripleCount, tripleAt}
+use Rattle.triples.specs.Sizes.{wordCount}
+use Rattle.triples.specs.Ranks.{tripleAt}
+use Rattle.triples.specs.Sets.{fullOf, aroundOf, Rows, Holding}
 use Rattle.lists.specs.Tests.{isFlat}
-
-unfoldable pub fullOf : ℕ → List ℕ
-fullOf n = sift wordCount (λ r. ltb r (tripleCount n))
-
-unfoldable pub holdersOf : ℕ → ℕ → List ℕ
-holdersOf n k = sift wordCount (λ r. isOn k (tripleAt n r))
-
-unfoldable pub maskOn : ℕ → ℕ → List ℕ → Bool
-maskOn n x s = every n (λ i. not (bit x i) || isOn i s)
-
-unfoldable pub aroundOf : ℕ → ℕ → List ℕ → List ℕ
-aroundOf n x w = sift wordCount (λ r. member w r && maskOn n x (tripleAt n r))
 
 unfoldable pub solidOf : List ℤ → List ℕ
 solidOf l = sift wordCount (λ r. not (isFlat l (tripleAt (countOf l) r)))
@@ -55,12 +36,6 @@ innerOf l i j = sift wordCount (λ r. not (borderOf l i j) && (isOn i (tripleAt 
 
 abbrev pub innerRow : ℕ → ℕ → ℕ
 innerRow i j = shotsMost * j + i
-
-abbrev pub Rows : List ℕ → ℕ → (ℕ → List ℕ) → Type 0
-Rows t k f = (p : ℕ) → p < k → rowOf wordCount t p ≡ f p
-
-abbrev pub Holding : ℕ → List ℕ → Type 0
-Holding n t = Rows t n (holdersOf n)
 
 -- for the pairs with both shots below n
 abbrev pub InnerBelow : List ℤ → ℕ → List ℕ → Type 0

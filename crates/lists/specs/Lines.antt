@@ -25,7 +25,7 @@ use Rattle.matroid.specs.Triangulations.{Family, Edge, Flat, Border}
 use Rattle.shots.specs.Coordinates.{pointOf}
 use Rattle.shots.specs.Patch.{countOf}
 use Rattle.shots.specs.Lines.{shotLines}
-use Rattle.lists.specs.Ranks.{tripleCount, tripleAt}
+use Rattle.triples.specs.Ranks.{tripleCount, tripleAt}
 
 abbrev pub Listed : ℕ → List ℕ → Family
 Listed n w s = (r : ℕ) × (r < tripleCount n) × (member w r ≡ true) × (tripleAt n r ≡ s)

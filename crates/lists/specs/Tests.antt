@@ -1,6 +1,5 @@
 -- When a list is refused, 7 10 8 9, as tests that compute (specs/Lines has them as statements). A list is a set of triples, one bit for each rank.
 --
---   wordsOf t          the words of the code's list
 --   isFlat l s         the triple s has orientation 0
 --   pastLast l w       a bit past the last rank
 --   someFlat l w       a flat triple
@@ -15,7 +14,7 @@
 --   listRefusalOf l w  the number that refuses the list, 0 where it is accepted
 --
 -- Source: document 01, "What a surface is", "Refusal numbers".
-use mathlib.Core.Bool.{Bool, true, false, not, _||_, _&&_}
+use mathlib.Core.Bool.{Bool, true, not, _||_, _&&_}
 use mathlib.Core.List.{List, [], _∷_}
 use Prim.Native.Nat.{ℕ, _*_}
 use lib.Dec.{leb, eqb}
@@ -30,11 +29,7 @@ use Rattle.shots.specs.Patch.{countOf, orientOf, borderOf}
 use Rattle.circuits.specs.Sides.{Circuit}
 use Rattle.circuits.specs.Numbered.{circuitsOf}
 use Rattle.circuits.specs.Calls.{circuitAt}
-use Rattle.lists.specs.Ranks.{tripleCount, tripleAt}
-use Rattle.lists.specs.declared.Triples.{Triples}
-
-abbrev pub wordsOf : Triples → List ℕ
-wordsOf t = t .low ∷ t .high ∷ []
+use Rattle.triples.specs.Ranks.{tripleCount, tripleAt}
 
 -- what is no triple counts as flat
 unfoldable pub isFlat : List ℤ → List ℕ → Bool

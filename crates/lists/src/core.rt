@@ -1,25 +1,25 @@
 // The test of a list of a patch whose shots are known to be right, over arrays that are worked out once.
 ghost use mathlib.Core.Path.{_≡_};
 ghost use mathlib.Core.Bool.{_&&_};
-ghost use mathlib.Core.List.{List};
-ghost use Prim.Native.Nat.{_*_, _^_, _≤_, _<_};
+ghost use Prim.Native.Nat.{_*_, _≤_, _<_};
 ghost use lib.ListN.{length, getD};
 ghost use Rattle.algebra.specs.Loops.{any};
 ghost use Rattle.algebra.specs.Words.{meetsOf, rowOf};
 ghost use Rattle.shots.specs.Sizes.{shotsMost};
 ghost use Rattle.shots.specs.Patch.{countOf};
-ghost use Rattle.shots.specs.Tests.{Near, refusalOf};
-ghost use Rattle.circuits.specs.Sizes.{circuitsMost, maskBits};
+ghost use Rattle.shots.specs.Tests.{Near};
+ghost use Rattle.circuits.specs.Sizes.{circuitsMost};
 ghost use Rattle.circuits.specs.Numbered.{circuitsOf};
-ghost use Rattle.lists.specs.Sizes.{wordCount};
-ghost use Rattle.lists.specs.Tests.{wordsOf, listRefusalOf};
-ghost use Rattle.lists.specs.Held.{fullOf, aroundOf, solidOf, Rows, Holding, AroundPlus, AroundMinus, Inner, Prepared};
-use super::Triples;
+ghost use Rattle.triples.specs.Sizes.{wordCount};
+ghost use Rattle.triples.specs.Sets.{wordsOf, fullOf, aroundOf, Rows, Holding};
+ghost use Rattle.lists.specs.Tests.{listRefusalOf};
+ghost use Rattle.lists.specs.Held.{solidOf, AroundPlus, AroundMinus, Inner, Prepared};
 use super::edges;
-use super::holding;
-use super::ranks;
-use super::rows;
-use super::sets;
+use triples::Triples;
+use triples::holding;
+use triples::ranks;
+use triples::rows;
+use triples::sets;
 
 // The triples that are not flat.
 pub fn solid(shots: &[i32]) -> Triples

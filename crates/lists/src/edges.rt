@@ -7,13 +7,13 @@ ghost use Rattle.algebra.specs.Words.{bothOf, aloneOf, rowOf};
 ghost use Rattle.shots.specs.Sizes.{shotsMost};
 ghost use Rattle.shots.specs.Patch.{countOf};
 ghost use Rattle.shots.specs.Tests.{Near};
-ghost use Rattle.lists.specs.Sizes.{wordCount};
-ghost use Rattle.lists.specs.Tests.{wordsOf};
-ghost use Rattle.lists.specs.Held.{innerOf, innerRow, Holding, Inner, InnerWith};
-use super::Triples;
-use super::rows;
-use super::sets;
+ghost use Rattle.triples.specs.Sizes.{wordCount};
+ghost use Rattle.triples.specs.Sets.{wordsOf, Holding};
+ghost use Rattle.lists.specs.Held.{innerOf, innerRow, Inner, InnerWith};
 use shots::SHOTS_MOST;
+use triples::Triples;
+use triples::rows;
+use triples::sets;
 
 // The triples that hold the pair i, j; none where it is a border pair.
 fn inner(shots: &[i32], held: &[u64], i: usize, j: usize) -> Triples

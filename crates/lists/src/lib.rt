@@ -1,33 +1,22 @@
-// Lists: sets of triples of shots, one bit for each, and the test whether a list is a triangulation.
+// Lists: the test whether a set of triples is a triangulation of the shots.
 //
 //   test    accepted                  1-4, 7 10 8 9
 //
 // It takes every input; specs/Calls.antt says what it answers, specs/Lines.antt when it refuses.
 ghost use mathlib.Core.Path.{_≡_};
-ghost use Rattle.lists.specs.Tests.{wordsOf};
+ghost use Rattle.triples.specs.Sets.{wordsOf};
 ghost use Rattle.lists.specs.Calls.{readTested, testOf};
+use triples::Triples;
 
 pub mod core;
 pub mod edges;
-pub mod holding;
-pub mod ranks;
-pub mod rows;
-pub mod sets;
-mod tables;
-
-// A list has this many words.
-pub const WORDS: usize = 2;
 
 // The words of the arrays that a test works out: a row for each shot, for each circuit, for each pair.
 pub const HELD_WORDS: usize = 20;
-pub const AROUND_WORDS: usize = 660;
-pub const INNER_WORDS: usize = 200;
 
-// A set of triples: rank r at bit r mod 64, from the low end, of word r div 64. Only sets::word and sets::with_word touch the words.
-pub struct Triples {
-    pub low: u64,
-    pub high: u64,
-}
+pub const AROUND_WORDS: usize = 660;
+
+pub const INNER_WORDS: usize = 200;
 
 pub enum Tested {
     Accepted,
@@ -47,9 +36,25 @@ pub fn test(shots: &[i32], list: Triples) -> Tested
     let mut around_plus = [0u64; AROUND_WORDS];
     let mut around_minus = [0u64; AROUND_WORDS];
     let mut inner = [0u64; INNER_WORDS];
-    let count = core::prepare(shots, &mut held, &mut plus, &mut minus, &mut around_plus, &mut around_minus, &mut inner);
+    let count = core::prepare(
+        shots,
+        &mut held,
+        &mut plus,
+        &mut minus,
+        &mut around_plus,
+        &mut around_minus,
+        &mut inner,
+    );
     let solid = core::solid(shots);
-    let number = core::refusal(shots, solid, &around_plus, &around_minus, count, &inner, list);
+    let number = core::refusal(
+        shots,
+        solid,
+        &around_plus,
+        &around_minus,
+        count,
+        &inner,
+        list,
+    );
     if number != 0 {
         return Tested::Refused(number);
     }

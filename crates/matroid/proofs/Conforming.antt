@@ -6,7 +6,7 @@
 --   Opposed f g n        of the places where f and g have opposite signs one at which - f / g is least
 --   Conforming n P f     a signed g that fits f at every place
 --
--- Main theorems: `conformal`, `circuit-inside`, `circuit-elementary`, `circuit-against`.
+-- Main theorems: `conformal`, `circuit-inside`, `circuit-alike`, `circuit-elementary`, `circuit-against`.
 use mathlib.Core.Path.{_≡_, sym, _∙_, ap}
 use mathlib.Core.Logic.{_⊎_, inl, inr}
 use mathlib.Core.List.{[], _∷_}
@@ -15,7 +15,8 @@ use native.Mathlib.Omega.{arith}
 use lib.IntN.{ℤ, pos, negℤ, _+ℤ_, _-ℤ_, _*ℤ_, negℤ-negℤ, *ℤ-comm, ℤ-discrete}
 use Rattle.algebra.specs.Sign.{nought, signOf, opposite, Pos, NN, Neg, NZ, Tri, below, at-nought, above}
 use Rattle.algebra.proofs.Ring.{Ex, cst, var, _⊕_, _⊝_, _⊗_, neg, ring}
-use Rattle.algebra.proofs.SignLaws.{tri, zero-mul, both-zero, neg-zero, pos-cast, nn-cast, pos-mul, nn-mul, nn-add, pos-nn-add, pos-nn, nn-zero, pos-zero, neg-nn, nn-of-mul, square-nn, square-pos, np-of, factor-l, factor-r, dec-pos, signOf-pos, signOf-neg, signOf-zero, signOf-opposite, zero-signOf, nought-opposite}
+use Rattle.algebra.proofs.SignLaws.{tri, zero-mul, both-zero, neg-zero, pos-cast, nn-cast, pos-mul, nn-mul, nn-add, pos-nn-add, pos-nn, nn-zero, pos-zero, neg-nn, nn-of-mul}
+use Rattle.algebra.proofs.SignLaws.{square-nn, square-pos, np-of, factor-l, factor-r, dec-pos, signOf-pos, signOf-neg, signOf-zero, signOf-opposite, zero-signOf, nought-opposite}
 use Rattle.matroid.specs.Points.{Configuration, Distinct}
 use Rattle.matroid.specs.Dependencies.{Dependency, Somewhere}
 use Rattle.matroid.specs.Circuits.{SignVector, Circuit, Alike, against}
@@ -33,14 +34,14 @@ pub record Fits (u v : ℤ) : Type 0 where
 fits-of : (u v : ℤ) → (Neg (u *ℤ v) → ⊥) → (v ≡ pos 0 → u ≡ pos 0) → Fits u v
 fits-of u v h k = record { agree = nn-cast (negℤ-negℤ (u *ℤ v)) (np-of (negℤ (u *ℤ v)) h); under = k }
 
-pub fits-trans : {u v w : ℤ} → Fits u v → Fits v w → Fits u w
+fits-trans : {u v w : ℤ} → Fits u v → Fits v w → Fits u w
 fits-trans {u} {v} {w} h k = record { agree = go (ℤ-discrete v (pos 0)); under = λ e. h .under (k .under e) }
   where
     go : Dec (v ≡ pos 0) → NN (u *ℤ w)
     go (yes e) = nn-zero (zero-mul w (h .under e))
     go (no nz) = nn-of-mul (square-pos v nz) (nn-cast (ring (u ∷ v ∷ w ∷ []) ((var 0 ⊗ var 1) ⊗ (var 1 ⊗ var 2)) ((var 1 ⊗ var 1) ⊗ (var 0 ⊗ var 2)) tt) (nn-mul (h .agree) (k .agree)))
 
-pub fits-pos : {u v : ℤ} → Fits u v → Pos u → Pos v
+fits-pos : {u v : ℤ} → Fits u v → Pos u → Pos v
 fits-pos {u} {v} h p = go (tri v)
   where
     go : Tri v → Pos v
@@ -48,13 +49,13 @@ fits-pos {u} {v} h p = go (tri v)
     go (at-nought e) = pos-zero p (h .under e)
     go (below q) = neg-nn (pos-cast (ring (u ∷ v ∷ []) (var 0 ⊗ neg (var 1)) (neg (var 0 ⊗ var 1)) tt) (pos-mul p q)) (h .agree)
 
-pub fits-neg : (u v : ℤ) → Fits u v → Neg u → Neg v
+fits-neg : (u v : ℤ) → Fits u v → Neg u → Neg v
 fits-neg u v h = fits-pos {u = negℤ u} {v = negℤ v} (record {
   agree = nn-cast (ring (u ∷ v ∷ []) (var 0 ⊗ var 1) (neg (var 0) ⊗ neg (var 1)) tt) (h .agree);
   under = λ e. ap negℤ (h .under (neg-zero v e));
 })
 
-pub fits-sign : (u v : ℤ) → Fits u v → NZ u → signOf u ≡ signOf v
+fits-sign : (u v : ℤ) → Fits u v → NZ u → signOf u ≡ signOf v
 fits-sign u v h nz = go (tri u)
   where
     go : Tri u → signOf u ≡ signOf v
@@ -124,16 +125,16 @@ pub data Signed (n : ℕ) (P : Configuration) : (ℕ → ℤ) → Type 0 where
   as-is : {f : ℕ → ℤ} → Elementary n P f → Signed n P f
   negated : {f : ℕ → ℤ} → Elementary n P f → Signed n P (λ i. negℤ (f i))
 
-pub signed-dependency : (n : ℕ) (P : Configuration) (g : ℕ → ℤ) → Signed n P g → Dependency n P g
+signed-dependency : (n : ℕ) (P : Configuration) (g : ℕ → ℤ) → Signed n P g → Dependency n P g
 signed-dependency n P g (as-is {f} e) = elementary-dependency n P f e
 signed-dependency n P g (negated {f} e) = dep-neg n P f (elementary-dependency n P f e)
 
 module _ (n : ℕ) (P : Configuration) (ds : Distinct n P) where
-  pub signed-somewhere : (g : ℕ → ℤ) → Signed n P g → Somewhere n g
+  signed-somewhere : (g : ℕ → ℤ) → Signed n P g → Somewhere n g
   signed-somewhere g (as-is {f} e) = elementary-somewhere n P ds f e
   signed-somewhere g (negated {f} e) = somewhere-neg n f (elementary-somewhere n P ds f e)
 
-  pub signed-circuit : (g : ℕ → ℤ) → Signed n P g → Circuit n P (λ i. signOf (g i))
+  signed-circuit : (g : ℕ → ℤ) → Signed n P g → Circuit n P (λ i. signOf (g i))
   signed-circuit g (as-is {f} e) = elementary-circuit n P ds f e
   signed-circuit g (negated {f} e) = circuit-alike (λ i l. sym (signOf-opposite (f i))) (circuit-against (elementary-circuit n P ds f e))
 
@@ -179,7 +180,11 @@ module _ (n : ℕ) (P : Configuration) where
 
         go : Opposed f g n ⊎ ((m : ℕ) → m < n → Neg (f m *ℤ g m) → ⊥) → Least n (λ m. Pos (f m *ℤ g m)) ⊎ ((m : ℕ) → m < n → Pos (f m *ℤ g m) → ⊥) → Conforming n P f
         go (inr none) s = record { part = g; signed = as-is (i .elementary); fits = λ m l. fits-of (g m) (f m) (λ p. none m l (pos-cast (ap negℤ (*ℤ-comm (g m) (f m))) p)) (i .under m) }
-        go (inl r) (inr none) = record { part = λ m. negℤ (g m); signed = negated (i .elementary); fits = λ m l. fits-of (negℤ (g m)) (f m) (λ p. none m l (pos-cast (ring (f m ∷ g m ∷ []) (neg (neg (var 1) ⊗ var 0)) (var 0 ⊗ var 1) tt) p)) (λ e. ap negℤ (i .under m e)) }
+        go (inl r) (inr none) = record {
+          part = λ m. negℤ (g m);
+          signed = negated (i .elementary);
+          fits = λ m l. fits-of (negℤ (g m)) (f m) (λ p. none m l (pos-cast (ring (f m ∷ g m ∷ []) (neg (neg (var 1) ⊗ var 0)) (var 0 ⊗ var 1) tt) p)) (λ e. ap negℤ (i .under m e));
+        }
         go (inl r) (inl s) = mix g (elementary-dependency n P g (i .elementary)) (i .under) s r
 
   by-count : Distinct n P → (b : ℕ) (f : ℕ → ℤ) → cnt n f < b → Dependency n P f → Somewhere n f → Conforming n P f

@@ -1,9 +1,7 @@
 -- Laws of affine dependencies.
 --
---   dep-lin, dep-neg, dep-cong    a combination, the negative, the same weights
+--   dep-lin, dep-neg              a combination, the negative
 --   comb-dep                      weights at four places
---   dep-form                      every affine form weighs 0
---   dep-line, dep-dot             so do the distances from a line, and the scalar products with a vector
 --   somewhere-neg, somewhere-nowhere
 --
 -- Main theorems: a dependency that lives on one point (`one-nowhere`), on two different points (`two-nowhere`) or on three points off a line (`three-nowhere`) is 0 everywhere.
@@ -40,7 +38,7 @@ module _ (n : ℕ) (P : Configuration) where
       shift : (u v w : ℤ) → (a *ℤ u +ℤ b *ℤ v) *ℤ w ≡ a *ℤ (u *ℤ w) +ℤ b *ℤ (v *ℤ w)
       shift u v w = ring (a ∷ b ∷ u ∷ v ∷ w ∷ []) ((var 0 ⊗ var 2 ⊕ var 1 ⊗ var 3) ⊗ var 4) (var 0 ⊗ (var 2 ⊗ var 4) ⊕ var 1 ⊗ (var 3 ⊗ var 4)) tt
 
-  pub dep-cong : (f g : ℕ → ℤ) → ((i : ℕ) → f i ≡ g i) → Dependency n P f → Dependency n P g
+  dep-cong : (f g : ℕ → ℤ) → ((i : ℕ) → f i ≡ g i) → Dependency n P f → Dependency n P g
   dep-cong f g e h = subst (Dependency n P) (λ k i. e i k) h
 
   pub dep-neg : (f : ℕ → ℤ) → Dependency n P f → Dependency n P (λ i. negℤ (f i))
@@ -59,7 +57,7 @@ module _ (n : ℕ) (P : Configuration) where
   }
 
   module _ (f : ℕ → ℤ) (h : Dependency n P f) where
-    pub dep-form : (A B C : ℤ) → sum n (λ i. f i *ℤ (A *ℤ P i .x +ℤ B *ℤ P i .y +ℤ C)) ≡ pos 0
+    dep-form : (A B C : ℤ) → sum n (λ i. f i *ℤ (A *ℤ P i .x +ℤ B *ℤ P i .y +ℤ C)) ≡ pos 0
     dep-form A B C =
         sum-cong n (λ i. ring (A ∷ B ∷ C ∷ f i ∷ P i .x ∷ P i .y ∷ []) (var 3 ⊗ (var 0 ⊗ var 4 ⊕ var 1 ⊗ var 5 ⊕ var 2)) (cst (pos 1) ⊗ (var 0 ⊗ (var 3 ⊗ var 4) ⊕ var 1 ⊗ (var 3 ⊗ var 5)) ⊕ var 2 ⊗ var 3) tt)
         ∙ sum-lin n (pos 1) C (λ i. A *ℤ (f i *ℤ P i .x) +ℤ B *ℤ (f i *ℤ P i .y)) f
@@ -69,10 +67,10 @@ module _ (n : ℕ) (P : Configuration) where
     dep-affine : (g : ℕ → ℤ) (A B C : ℤ) → ((i : ℕ) → g i ≡ A *ℤ P i .x +ℤ B *ℤ P i .y +ℤ C) → sum n (λ i. f i *ℤ g i) ≡ pos 0
     dep-affine g A B C e = sum-cong n (λ i. ap (λ z. f i *ℤ z) (e i)) ∙ dep-form A B C
 
-    pub dep-line : (p q : Point) → sum n (λ i. f i *ℤ turn p q (P i)) ≡ pos 0
+    dep-line : (p q : Point) → sum n (λ i. f i *ℤ turn p q (P i)) ≡ pos 0
     dep-line p q = dep-affine (λ i. turn p q (P i)) (p .y -ℤ q .y) (q .x -ℤ p .x) (p .x *ℤ q .y -ℤ p .y *ℤ q .x) (λ i. turn-form p q (P i))
 
-    pub dep-dot : (m p : Point) → sum n (λ i. f i *ℤ dot m p (P i)) ≡ pos 0
+    dep-dot : (m p : Point) → sum n (λ i. f i *ℤ dot m p (P i)) ≡ pos 0
     dep-dot m p = dep-affine (λ i. dot m p (P i)) (p .x -ℤ m .x) (p .y -ℤ m .y) (negℤ ((p .x -ℤ m .x) *ℤ m .x +ℤ (p .y -ℤ m .y) *ℤ m .y))
         (λ i. ring (coordinates (m ∷ p ∷ P i ∷ [])) (O 0 1 2) ((X 1 ⊝ X 0) ⊗ X 2 ⊕ (Y 1 ⊝ Y 0) ⊗ Y 2 ⊕ neg ((X 1 ⊝ X 0) ⊗ X 0 ⊕ (Y 1 ⊝ Y 0) ⊗ Y 0)) tt)
 

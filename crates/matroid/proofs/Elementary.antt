@@ -87,7 +87,11 @@ elementary-dependency n P f (e4 a b c d ab bc cd dn _ _ _ _) =
     weighted p q r s = D 1 2 3 ⊗ p ⊕ neg (D 0 2 3) ⊗ q ⊕ (D 0 1 3 ⊗ r ⊕ neg (D 0 1 2) ⊗ s)
 
 pub elementary-somewhere : (n : ℕ) (P : Configuration) → Distinct n P → (f : ℕ → ℤ) → Elementary n P f → Somewhere n f
-elementary-somewhere n P ds f (e3 a b c ab bc cn e) = record { at = b; low = omega arith; so = λ z. ds a c (omega arith) cn (sym (dot-zero (P a) (P c) (neg-zero (dot (P a) (P c) (P c)) (sym (weights3-b P a b c ab bc) ∙ z)))) }
+elementary-somewhere n P ds f (e3 a b c ab bc cn e) = record {
+  at = b;
+  low = omega arith;
+  so = λ z. ds a c (omega arith) cn (sym (dot-zero (P a) (P c) (neg-zero (dot (P a) (P c) (P c)) (sym (weights3-b P a b c ab bc) ∙ z))));
+}
 elementary-somewhere n P ds f (e4 a b c d ab bc cd dn h _ _ _) = record { at = a; low = omega arith; so = λ z. h (sym (weights4-a P a b c d ab bc cd) ∙ z) }
 
 -- ---- circuits
@@ -101,7 +105,8 @@ also-at g p m z k = go (ℕ-discrete m p)
     go (no ne) = k ne
 
 -- a dependency inside the weights that is 0 at one of their places lives on two different points, or on three off a line
-smallest : (n : ℕ) (P : Configuration) → Distinct n P → (f : ℕ → ℤ) → Elementary n P f → (g : ℕ → ℤ) → Dependency n P g → Somewhere n g → ((i : ℕ) → i < n → signOf (f i) ≡ nought → g i ≡ pos 0) → (i : ℕ) → i < n → g i ≡ pos 0 → signOf (f i) ≡ nought
+smallest : (n : ℕ) (P : Configuration) → Distinct n P → (f : ℕ → ℤ) → Elementary n P f → (g : ℕ → ℤ) → Dependency n P g → Somewhere n g
+    → ((i : ℕ) → i < n → signOf (f i) ≡ nought → g i ≡ pos 0) → (i : ℕ) → i < n → g i ≡ pos 0 → signOf (f i) ≡ nought
 smallest n P ds f (e3 a b c ab bc cn _) g h s off i il z = go (ℕ-discrete i a) (ℕ-discrete i b) (ℕ-discrete i c)
   where
     none : (m : ℕ) → m < n → (m ≡ a → ⊥) → (m ≡ b → ⊥) → (m ≡ c → ⊥) → g m ≡ pos 0

@@ -1,7 +1,5 @@
 -- Flips of a triangulation: only one side of a circuit can be supported, what is put in is new, and a flip is undone by the flip of the other side.
 --
---   no-whole         no member holds a whole circuit
---   some-side        a circuit has points on both sides
 --   not-both         not both sides are supported
 --   put-in-new       what a flip puts in was not there
 --   taken-out-old    what it takes out was there
@@ -76,7 +74,7 @@ module _ {n : ℕ} {P : Configuration} where
       go (inr none) = somewhere-nowhere (z .somewhere)
           (λ i l. neg-zero (z .by i) (nn-sum-zero n (λ j. negℤ (z .by j)) (λ j k. np-of (z .by j) (none j k)) (dep-neg n P (z .by) (z .dependency) .ones) i l))
 
-  pub some-side : {X : SignVector} → Circuit n P X → (s : Sign) → (s ≡ plus) ⊎ (s ≡ minus) → (a : ℕ) × (a < n) × (X a ≡ s)
+  some-side : {X : SignVector} → Circuit n P X → (s : Sign) → (s ≡ plus) ⊎ (s ≡ minus) → (a : ℕ) × (a < n) × (X a ≡ s)
   unfolding opposite
   some-side {X} z s (inl e) = let r = some-plus z in (r .0, r .1, r .2 ∙ sym e)
   some-side {X} z s (inr e) = let r = some-plus (circuit-against z) in (r .0, r .1, sym (opposite-opposite (X (r .0))) ∙ ap opposite (r .2) ∙ sym e)
@@ -121,7 +119,7 @@ module _ {n : ℕ} {P : Configuration} {T : Family} {X : SignVector} (g : Triang
   sides-apart s (inl e) t u m k h j = g .ip t u m k (record { by = X; circuit = z; left = λ i l q. h i l (q ∙ sym e); right = λ i l q. j i l (q ∙ sym (ap opposite e)) })
   sides-apart s (inr e) t u m k h j = g .ip u t k m (record { by = X; circuit = z; left = λ i l q. j i l (q ∙ sym (ap opposite e)); right = λ i l q. h i l (q ∙ sym e) })
 
-  pub no-whole : (t : List ℕ) → T t → ((i : ℕ) → i < n → (X i ≡ nought → ⊥) → On t i) → ⊥
+  no-whole : (t : List ℕ) → T t → ((i : ℕ) → i < n → (X i ≡ nought → ⊥) → On t i) → ⊥
   no-whole t m h = g .ip t t m m (record { by = X; circuit = z; left = λ i l q. h i l (λ e. plus-nought (sym q ∙ e)); right = λ i l q. h i l (λ e. minus-nought (sym q ∙ e)) })
 
   pub not-both : Supports n T X plus → Supports n T X minus → ⊥

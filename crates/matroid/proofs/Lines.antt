@@ -1,6 +1,9 @@
 -- Points on a line.
 --
--- Main theorems: `collinear-iff` (one line holds the points exactly when no three turn), `middle-of-three`, `between-iff`.
+--   between-iff        a point on the line of two others is between them exactly when its scalar product is negative
+--   middle-of-three    of three different points on a line one is in the middle
+--   line-through       the points are on the line of two different ones where none of them turns off it
+--   collinear-iff      one line holds the points exactly when no three turn
 use mathlib.Core.Path.{_≡_, refl, sym, _∙_, ap, ap₂}
 use mathlib.Core.Logic.{_⊎_, inl, inr, _↔_}
 use mathlib.Core.List.{List, [], _∷_}
@@ -68,7 +71,8 @@ module _ (a b c : ℤ) (ab : Pos (a +ℤ b)) (ac : Pos (a +ℤ c)) (bc : Pos (b 
       go (above h) (above k) (above l) = pos-zero (pos-add (pos-add (pos-mul h k) (pos-mul h l)) (pos-mul k l)) e
 
 -- the scalar products add up to the squared distances, and their products to the squared turn
-pub middle-of-three : (p q r : Point) → turn p q r ≡ pos 0 → (p ≡ q → ⊥) → (q ≡ r → ⊥) → (p ≡ r → ⊥) → (Neg (dot p q r) × Pos (dot q p r) × Pos (dot r p q)) ⊎ (Pos (dot p q r) × Neg (dot q p r) × Pos (dot r p q)) ⊎ (Pos (dot p q r) × Pos (dot q p r) × Neg (dot r p q))
+pub middle-of-three : (p q r : Point) → turn p q r ≡ pos 0 → (p ≡ q → ⊥) → (q ≡ r → ⊥) → (p ≡ r → ⊥)
+    → (Neg (dot p q r) × Pos (dot q p r) × Pos (dot r p q)) ⊎ (Pos (dot p q r) × Neg (dot q p r) × Pos (dot r p q)) ⊎ (Pos (dot p q r) × Pos (dot q p r) × Neg (dot r p q))
 middle-of-three p q r e pq qr pr = one-negative (dot p q r) (dot q p r) (dot r p q)
     (pos-cast (ring ρ (O 1 0 0) (O 0 1 2 ⊕ O 1 0 2) tt) (dot-pos q p pq))
     (pos-cast (ring ρ (O 2 0 0) (O 0 1 2 ⊕ O 2 0 1) tt) (dot-pos r p pr))
@@ -101,7 +105,7 @@ line-turn a b c proper p q r hp hq hr = zero-if (turn p q r) (λ t. proper (
 
 module _ (n : ℕ) (P : Configuration) where
   -- the line through two different points
-  line-through : (p q : Point) → (q ≡ p → ⊥) → ((i : ℕ) → i < n → turn p q (P i) ≡ pos 0) → Collinear n P
+  pub line-through : (p q : Point) → (q ≡ p → ⊥) → ((i : ℕ) → i < n → turn p q (P i) ≡ pos 0) → Collinear n P
   line-through p q ne h = record {
     a = p .y -ℤ q .y;
     b = q .x -ℤ p .x;

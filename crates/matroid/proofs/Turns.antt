@@ -5,7 +5,7 @@
 --   D i j k, O m i j   turn and dot of the points of these numbers, as expressions
 --
 -- Main theorems: `turn-is-det3`; alternating: `turn-cycle`, `turn-swap`, `turn-swap-first`; repeated points: `turn-first`, `turn-last`, `turn-ends`; `turn-form`;
--- `dot-base`, `dot-zero`, `dot-pos`: the scalar product, and that different points are apart.
+-- `dot-base`, `dot-zero`, `dot-pos`: the scalar product, and that different points are apart; `point-path`: points with the same coordinates are the same.
 use mathlib.Core.Path.{_≡_, _∙_}
 use mathlib.Core.List.{List, [], _∷_}
 use Prim.Native.Nat.{ℕ, _+_, _*_}
@@ -77,7 +77,9 @@ pub dot-base : (m p : Point) → dot m p m ≡ pos 0
 dot-base m p = ring (coordinates (m ∷ p ∷ [])) (O 0 1 0) (cst (pos 0)) tt
 
 pub dot-zero : (p q : Point) → dot p q q ≡ pos 0 → q ≡ p
-dot-zero p q e = point-path q p (sub-zero→eq (q .x) (p .x) (squares-zero (q .x -ℤ p .x) (q .y -ℤ p .y) e)) (sub-zero→eq (q .y) (p .y) (squares-zero (q .y -ℤ p .y) (q .x -ℤ p .x) (+ℤ-comm ((q .y -ℤ p .y) *ℤ (q .y -ℤ p .y)) ((q .x -ℤ p .x) *ℤ (q .x -ℤ p .x)) ∙ e)))
+dot-zero p q e =
+    point-path q p (sub-zero→eq (q .x) (p .x) (squares-zero (q .x -ℤ p .x) (q .y -ℤ p .y) e))
+    (sub-zero→eq (q .y) (p .y) (squares-zero (q .y -ℤ p .y) (q .x -ℤ p .x) (+ℤ-comm ((q .y -ℤ p .y) *ℤ (q .y -ℤ p .y)) ((q .x -ℤ p .x) *ℤ (q .x -ℤ p .x)) ∙ e)))
 
 pub dot-pos : (p q : Point) → (q ≡ p → ⊥) → Pos (dot p q q)
 dot-pos p q ne = go (tri (dot p q q))

@@ -1,7 +1,11 @@
-// What the library says of the square with its centre, document 01's example: border pairs, circuits, and each circuit's sides.
+// What the library says of the square with its centre, document 01's example: border pairs, circuits and each circuit's sides; the placing surface, its
+// flips, and a list that is no triangulation.
 use circuits::Split;
 use libc::STDOUT_FILENO;
+use lists::Tested;
 use shots::Counted;
+use surfaces::Surface;
+use triples::Triples;
 
 fn print_refusal(number: u8) {
     io::write_all(STDOUT_FILENO, b"refused ");
@@ -46,6 +50,77 @@ fn print_circuit(answer: Split) {
     io::write_all(STDOUT_FILENO, b"\n");
 }
 
+fn print_triple(t: triples::ranks::Triple) {
+    io::write_all(STDOUT_FILENO, b" ");
+    io::print_decimal(STDOUT_FILENO, t.i as u64);
+    io::print_decimal(STDOUT_FILENO, t.j as u64);
+    io::print_decimal(STDOUT_FILENO, t.k as u64);
+}
+
+// The triples of five shots, in the order of their ranks.
+fn print_list(list: Triples) {
+    let mut r = 0;
+    while r < 10 {
+        if triples::sets::has(list, r) {
+            print_triple(triples::ranks::triple_at(5, r));
+        }
+        r += 1;
+    }
+}
+
+fn print_surface(answer: Surface) {
+    match answer {
+        Surface::List(list) => print_list(list),
+        Surface::Refused(n) => {
+            io::write_all(STDOUT_FILENO, b" ");
+            print_refusal(n);
+        }
+    }
+    io::write_all(STDOUT_FILENO, b"\n");
+}
+
+fn print_tested(answer: Tested) {
+    match answer {
+        Tested::Accepted => io::write_all(STDOUT_FILENO, b" accepted"),
+        Tested::Refused(n) => {
+            io::write_all(STDOUT_FILENO, b" ");
+            print_refusal(n);
+        }
+    }
+    io::write_all(STDOUT_FILENO, b"\n");
+}
+
+fn print_flip(shots: &[i32], list: Triples, z: usize) {
+    io::write_all(STDOUT_FILENO, b"flip ");
+    io::print_decimal(STDOUT_FILENO, z as u64);
+    print_surface(surfaces::flip(shots, list, z));
+}
+
+fn print_flips(shots: &[i32]) {
+    match surfaces::placing(shots) {
+        Surface::List(list) => {
+            io::write_all(STDOUT_FILENO, b"placing");
+            print_list(list);
+            io::write_all(STDOUT_FILENO, b"\n");
+            print_flip(shots, list, 0);
+            print_flip(shots, list, 1);
+            print_flip(shots, list, 2);
+            print_flip(shots, list, 3);
+        }
+        Surface::Refused(n) => print_refusal(n),
+    }
+}
+
+// Areas that add up are not enough: shot 4 lies inside the edge 02 of 012.
+fn print_test(shots: &[i32]) {
+    let a = triples::sets::with(triples::sets::none(), triples::ranks::rank(5, 0, 1, 2));
+    let b = triples::sets::with(a, triples::ranks::rank(5, 0, 3, 4));
+    let c = triples::sets::with(b, triples::ranks::rank(5, 2, 3, 4));
+    io::write_all(STDOUT_FILENO, b"test");
+    print_list(c);
+    print_tested(lists::test(shots, c));
+}
+
 fn main() {
     let square = [0, 0, 2, 0, 2, 2, 0, 2, 1, 1];
     io::write_all(STDOUT_FILENO, b"border ");
@@ -57,4 +132,6 @@ fn main() {
     print_circuit(circuits::circuit(&square, 1));
     print_circuit(circuits::circuit(&square, 2));
     print_circuit(circuits::circuit(&square, 3));
+    print_flips(&square);
+    print_test(&square);
 }

@@ -1,31 +1,21 @@
 -- `lists::test` meets its contract: the chain stops at the run, at the list, or accepts.
-use mathlib.Core.Path.{_≡_, sym, _∙_, ap}
-use mathlib.Core.List.{List, []}
-use Prim.Native.Nat.{ℕ, _≤_}
+use mathlib.Core.Path.{_≡_, sym, _∙_}
+use mathlib.Core.List.{[]}
+use Prim.Native.Nat.{_≤_}
 use native.Mathlib.Omega.{arith}
 use borrow.Author.Needs.{needs}
-use lib.IntN.{ℤ}
-use Rattle.algebra.specs.Answer.{Answer, gives, refuses, chain}
-use Rattle.algebra.proofs.AnswerLaws.{chain-stop, chain-after}
+use Rattle.algebra.specs.Answer.{chain}
 use Rattle.shots.specs.Sizes.{shotsMost}
 use Rattle.shots.specs.Patch.{countOf}
 use Rattle.shots.specs.Tests.{Near, refusalOf}
 use Rattle.shots.proofs.Patch.{patch-near, patch-few}
 use Rattle.shots.proofs.Chains.{shots-refused, shots-passed}
-use Rattle.lists.specs.Tests.{wordsOf, listRules, listRefusalOf}
+use Rattle.triples.specs.Sets.{wordsOf}
+use Rattle.lists.specs.Tests.{listRules}
 use Rattle.lists.specs.Calls.{testOf}
+use Rattle.lists.proofs.Chains.{list-refused, list-passed}
 use Rattle.lists.proofs.test.Statement.{statement}
 use Rattle.lists.proofs.test.Tie as tie
-
--- the list's own part of the chain; `r` is what the callee gave
-module _ (l : List ℤ) (w : List ℕ) {r : ℕ} (e : r ≡ listRefusalOf l w) where
-  list-refused : (r ≡ 0 → ⊥) → _≡_ {A = Answer (Unit {0})} (refuses r) (chain (listRules l w) tt)
-  unfolding listRefusalOf
-  list-refused h = ap refuses e ∙ chain-stop (listRules l w) [] tt (λ z. h (e ∙ z))
-
-  list-passed : r ≡ 0 → _≡_ {A = Answer (Unit {0})} (gives tt) (chain (listRules l w) tt)
-  unfolding listRefusalOf chain
-  list-passed h = chain-after (listRules l w) [] tt (omega arith, (omega arith, (omega arith, (omega arith, tt)))) (sym e ∙ h)
 
 returns : tie.Need-returns
 unfolding testOf
@@ -66,16 +56,16 @@ returns-2 c =
     let d = accepted (prepared (solids n) .before) in
     let a = d .before .before .args in
     let w = wordsOf (a .list) in
-    list-refused (a .shots .now) w (n .refusal2 .ensures) (c .if2 .taken) ∙ shots-passed (a .shots .now) (listRules (a .shots .now) w) tt (d .before .refusal .ensures) (d .if1 .left)
+    list-refused (a .shots .now) w [] tt (n .refusal2 .ensures) (c .if2 .taken) ∙ shots-passed (a .shots .now) (listRules (a .shots .now) w) tt (d .before .refusal .ensures) (d .if1 .left)
 
 returns-3 : tie.Need-returns-3
-unfolding testOf
+unfolding testOf chain
 returns-3 c =
     let n = c .before in
     let d = accepted (prepared (solids n) .before) in
     let a = d .before .before .args in
     let w = wordsOf (a .list) in
-    list-passed (a .shots .now) w (n .refusal2 .ensures) (c .if2 .left) ∙ shots-passed (a .shots .now) (listRules (a .shots .now) w) tt (d .before .refusal .ensures) (d .if1 .left)
+    list-passed (a .shots .now) w [] tt (n .refusal2 .ensures) (c .if2 .left) ∙ shots-passed (a .shots .now) (listRules (a .shots .now) w) tt (d .before .refusal .ensures) (d .if1 .left)
 
 pub test-spec : {M : Type 1} → statement M
 test-spec =

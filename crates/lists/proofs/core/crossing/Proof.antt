@@ -8,8 +8,8 @@ use borrow.Author.Needs.{needs}
 use Rattle.algebra.specs.Loops.{any}
 use Rattle.algebra.specs.Words.{meetsOf, rowOf}
 use Rattle.algebra.proofs.LoopLaws.{any-none, found, go-on, none}
-use Rattle.lists.specs.Sizes.{wordCount}
-use Rattle.lists.specs.Tests.{wordsOf}
+use Rattle.triples.specs.Sizes.{wordCount}
+use Rattle.triples.specs.Sets.{wordsOf}
 use Rattle.lists.proofs.core.crossing.Statement.{statement}
 use Rattle.lists.proofs.core.crossing.Tie as tie
 
@@ -42,12 +42,13 @@ returns c =
 loop-again : tie.Need-loop-again Inv-loop μ-loop
 loop-again c =
     let q = c .before in
-    let i = q .before .before .before .loop .inv .1 in
-    (search needs,
-    ⊎-elim
-    (λ w. go-on _ _ i (λ k. plus-here q k && (w .2 .ensures ∙ ap (meetsOf _) (w .1 .ensures)) k) (ap (λ (b : Bool). q .meets .result && b) (w .3 .left) ∙ and-false (q .meets .result)))
-    (λ v. go-on _ _ i refl (and-off _ _ (sym (plus-here q) ∙ v .left)))
-    (c .if1 .came))
+    let i = q .before .before .before .loop .inv .1 in (
+      search needs,
+      ⊎-elim
+          (λ w. go-on _ _ i (λ k. plus-here q k && (w .2 .ensures ∙ ap (meetsOf _) (w .1 .ensures)) k) (ap (λ (b : Bool). q .meets .result && b) (w .3 .left) ∙ and-false (q .meets .result)))
+          (λ v. go-on _ _ i refl (and-off _ _ (sym (plus-here q) ∙ v .left)))
+          (c .if1 .came),
+    )
 
 returns-2 : tie.Need-returns-2 Inv-loop μ-loop
 returns-2 c = none _ _ _ (c .before .loop .inv .0) (c .loop-test .left) (c .before .loop .inv .1)

@@ -6,7 +6,7 @@ use lib.ListN.{length}
 use Rattle.shots.specs.Patch.{countOf}
 use Rattle.circuits.specs.Sizes.{circuitsMost}
 use Rattle.circuits.proofs.FilledLaws.{poured-count}
-use Rattle.lists.specs.Sizes.{wordCount}
+use Rattle.triples.specs.Sizes.{wordCount}
 use Rattle.lists.proofs.SideRows.{poured-room, poured-sided, plus-rows, minus-rows}
 use Rattle.lists.proofs.core.prepare.Statement.{statement}
 use Rattle.lists.proofs.core.prepare.Tie as tie
@@ -61,15 +61,16 @@ returns c =
     let f = holders p in
     let t = circuits f in
     let s = start t in
-    let l = s .args .shots .now in
-    (poured-count _ _ _ _ _ _ (t .all .ensures),
-    record {
-      holding = f .fill .ensures .1;
-      sides = poured-sided l (s .pre .1) _ _ _ _ _ (s .pre .3) (s .pre .4) (t .all .ensures);
-      over-plus = plus-rows l (s .pre .1) _ _ _ _ _ (s .pre .3) (s .pre .4) (t .all .ensures) _ (p .sides .ensures .1);
-      over-minus = minus-rows l (s .pre .1) _ _ _ _ _ (s .pre .3) (s .pre .4) (t .all .ensures) _ (m .sides2 .ensures .1);
-      edges = i .fill2 .ensures .1;
-    })
+    let l = s .args .shots .now in (
+      poured-count _ _ _ _ _ _ (t .all .ensures),
+      record {
+        holding = f .fill .ensures .1;
+        sides = poured-sided l (s .pre .1) _ _ _ _ _ (s .pre .3) (s .pre .4) (t .all .ensures);
+        over-plus = plus-rows l (s .pre .1) _ _ _ _ _ (s .pre .3) (s .pre .4) (t .all .ensures) _ (p .sides .ensures .1);
+        over-minus = minus-rows l (s .pre .1) _ _ _ _ _ (s .pre .3) (s .pre .4) (t .all .ensures) _ (m .sides2 .ensures .1);
+        edges = i .fill2 .ensures .1;
+      },
+    )
 
 pub prepare-spec : {M : Type 1} → statement M
 prepare-spec =

@@ -7,10 +7,10 @@ use borrow.Author.Needs.{needs}
 use Rattle.algebra.specs.Words.{Words, insideOf}
 use Rattle.circuits.specs.Sizes.{circuitsMost}
 use Rattle.circuits.proofs.Bounds.{circuits-most}
-use Rattle.lists.specs.Sizes.{wordCount}
-use Rattle.lists.specs.Tests.{wordsOf}
+use Rattle.triples.specs.Sizes.{wordCount}
+use Rattle.triples.specs.Sets.{wordsOf}
 use Rattle.lists.specs.Held.{solidOf}
-use Rattle.lists.proofs.SetLaws.{words-of}
+use Rattle.triples.proofs.SetLaws.{words-of}
 use Rattle.lists.proofs.ByWords.{crossedBy, refusal-7, refusal-10, refusal-8, refusal-9, refusal-0}
 use Rattle.lists.proofs.core.refusal.Statement.{statement}
 use Rattle.lists.proofs.core.refusal.Tie as tie

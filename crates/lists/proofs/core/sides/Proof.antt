@@ -5,8 +5,8 @@ use Prim.Native.Nat.{ℕ, _-_, _≤_}
 use native.Mathlib.Omega.{arith}
 use lib.ListN.{length, getD}
 use borrow.Author.Needs.{needs}
-use Rattle.lists.specs.Held.{fullOf, aroundOf, Rows}
-use Rattle.lists.proofs.RowLaws.{rows-none, rows-more, rows-end}
+use Rattle.triples.specs.Sets.{fullOf, aroundOf, Rows}
+use Rattle.triples.proofs.RowLaws.{rows-none, rows-more, rows-end}
 use Rattle.lists.proofs.core.sides.Statement.{statement}
 use Rattle.lists.proofs.core.sides.Tie as tie
 
@@ -32,8 +32,8 @@ loop-again c =
     let s = f .before .before .before .before in
     let n = s .args .n in
     let m =
-        rows-more (over n (s .args .side .now)) (l .loop .out) (l .loop .z) refl (omega arith) (a .around .ensures ∙ ap (aroundOf n (getD (s .args .side .now) (l .loop .z) 0)) (f .full .ensures))
-        (q .put-row .ensures) (l .loop .inv .2) in
+    rows-more (over n (s .args .side .now)) (l .loop .out) (l .loop .z) refl (omega arith) (a .around .ensures ∙ ap (aroundOf n (getD (s .args .side .now) (l .loop .z) 0)) (f .full .ensures))
+    (q .put-row .ensures) (l .loop .inv .2) in
     (search needs, m .0 ∙ l .loop .inv .1, m .1)
 
 same-length : tie.Need-same-length Inv-loop μ-loop

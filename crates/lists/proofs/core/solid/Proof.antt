@@ -16,12 +16,13 @@ use Rattle.algebra.specs.Sign.{value}
 use Rattle.algebra.specs.Words.{wordBits}
 use Rattle.algebra.proofs.SizeLaws.{sign-is-nought}
 use Rattle.shots.specs.Patch.{countOf, orientOf}
-use Rattle.lists.specs.Sizes.{wordCount}
-use Rattle.lists.specs.Ranks.{tripleCount, tripleAt}
-use Rattle.lists.specs.Tests.{wordsOf, isFlat}
+use Rattle.triples.specs.Sizes.{wordCount}
+use Rattle.triples.specs.Ranks.{tripleCount, tripleAt}
+use Rattle.triples.specs.Sets.{wordsOf}
+use Rattle.lists.specs.Tests.{isFlat}
 use Rattle.lists.specs.Held.{solidOf}
-use Rattle.lists.proofs.RankLaws.{triple-at-within, rank-room}
-use Rattle.lists.proofs.SiftLaws.{sifted, sifted-none, sifted-in, sifted-out, sifted-end}
+use Rattle.triples.proofs.RankLaws.{triple-at-within, rank-room}
+use Rattle.triples.proofs.SiftLaws.{sifted, sifted-none, sifted-in, sifted-out, sifted-end}
 use Rattle.lists.proofs.ByWords.{flat-past}
 use Rattle.lists.proofs.core.solid.Statement.{statement}
 use Rattle.lists.proofs.core.solid.Tie as tie
@@ -86,12 +87,13 @@ loop-again c =
     let g = c .before in
     let t = g .before in
     let l = t .before .before in
-    let shots = l .before .before .before .args .shots .now in
-    (search needs,
-    ⊎-elim
-    (λ w. sifted-in wordCount (bent shots) (l .loop .r) (room (t .before)) (here g (ne-eqb _ _ (w .0 .taken))) (l .loop .inv .1) (ap wordsOf (w .2) ∙ w .1 .ensures))
-    (λ w. sifted-out wordCount (bent shots) (l .loop .r) (here g (eq-eqb _ _ (w .0 .left))) (ap wordsOf (w .1) ∙ l .loop .inv .1))
-    (c .if1 .came))
+    let shots = l .before .before .before .args .shots .now in (
+      search needs,
+      ⊎-elim
+          (λ w. sifted-in wordCount (bent shots) (l .loop .r) (room (t .before)) (here g (ne-eqb _ _ (w .0 .taken))) (l .loop .inv .1) (ap wordsOf (w .2) ∙ w .1 .ensures))
+          (λ w. sifted-out wordCount (bent shots) (l .loop .r) (here g (eq-eqb _ _ (w .0 .left))) (ap wordsOf (w .1) ∙ l .loop .inv .1))
+          (c .if1 .came),
+    )
 
 returns : tie.Need-returns Inv-loop μ-loop
 unfolding solidOf

@@ -4,7 +4,7 @@ use Prim.Native.Nat.{ℕ, _+_, _*_, _-_, _≤_}
 use native.Mathlib.Omega.{arith}
 use lib.ListN.{length}
 use borrow.Author.Needs.{needs}
-use Rattle.lists.specs.Sizes.{wordCount}
+use Rattle.triples.specs.Sizes.{wordCount}
 use Rattle.lists.specs.Held.{innerRow, InnerWith}
 use Rattle.lists.proofs.InnerLaws.{with-none, with-more}
 use Rattle.lists.proofs.edges.fill_with.Statement.{statement}

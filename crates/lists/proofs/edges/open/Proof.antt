@@ -7,8 +7,8 @@ use borrow.Author.Needs.{needs}
 use Rattle.algebra.specs.Loops.{any}
 use Rattle.algebra.specs.Words.{bothOf, aloneOf, rowOf}
 use Rattle.algebra.proofs.LoopLaws.{any-none, found, go-on, none}
-use Rattle.lists.specs.Sizes.{wordCount}
-use Rattle.lists.specs.Tests.{wordsOf}
+use Rattle.triples.specs.Sizes.{wordCount}
+use Rattle.triples.specs.Sets.{wordsOf}
 use Rattle.lists.specs.Held.{innerRow}
 use Rattle.lists.proofs.edges.open.Statement.{statement}
 use Rattle.lists.proofs.edges.open.Tie as tie

@@ -3,13 +3,12 @@ use mathlib.Core.Path.{_≡_, _∙_, ap}
 use mathlib.Core.Bool.{Bool, false}
 use mathlib.Core.List.{List}
 use Prim.Native.Nat.{ℕ, _-_, _≤_}
-use native.Mathlib.Omega.{arith}
 use borrow.Author.Needs.{needs}
 use Rattle.algebra.specs.Loops.{any}
 use Rattle.algebra.specs.Words.{bothOf, aloneOf, rowOf}
 use Rattle.algebra.proofs.LoopLaws.{any-none, found, go-on, none}
-use Rattle.lists.specs.Sizes.{wordCount}
-use Rattle.lists.specs.Tests.{wordsOf}
+use Rattle.triples.specs.Sizes.{wordCount}
+use Rattle.triples.specs.Sets.{wordsOf}
 use Rattle.lists.specs.Held.{innerRow}
 use Rattle.lists.proofs.edges.open_with.Statement.{statement}
 use Rattle.lists.proofs.edges.open_with.Tie as tie

@@ -1,0 +1,10 @@
+pub mod ByEdges
+pub mod Agreement
+pub mod Promises
+pub mod Balance
+pub mod AreaKept
+pub mod StarLaws
+pub mod StarLinks
+pub mod ByStars
+pub mod FlipLoops
+pub mod CallChains

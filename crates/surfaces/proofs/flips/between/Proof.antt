@@ -1,0 +1,45 @@
+-- `surfaces::flips::between` meets its contract: by whether the first side's pieces are supported.
+use mathlib.Core.Path.{_≡_, sym, _∙_}
+use mathlib.Core.Bool.{Bool, true, false, cond, _||_, true≢false}
+use mathlib.Core.List.{List}
+use Prim.Native.Nat.{ℕ}
+use borrow.Author.Needs.{needs}
+use Rattle.triples.specs.Sets.{wordsOf}
+use Rattle.surfaces.specs.Stars.{supportedBy, turnedBy}
+use Rattle.surfaces.proofs.flips.between.Statement.{statement}
+use Rattle.surfaces.proofs.flips.between.Tie as tie
+
+-- a and b say which side is supported; t and u are the lists turned, w the list as it was
+module _ (t u w : List ℕ) where
+  first-taken : (a b : Bool) {r : Bool} {v : List ℕ} → r ≡ true → (r ≡ a) × (v ≡ cond a t w) → (r ≡ (a || b)) × (v ≡ cond a t (cond b u w))
+  first-taken true b e p = p
+  first-taken false b e p = absurd (true≢false (sym e ∙ p .0))
+
+  second-taken : (a b : Bool) {r s : Bool} {v : List ℕ} → r ≡ false → r ≡ a → (s ≡ b) × (v ≡ cond b u w) → (s ≡ (a || b)) × (v ≡ cond a t (cond b u w))
+  second-taken true b e q p = absurd (true≢false (sym q ∙ e))
+  second-taken false b e q p = p
+
+-- what comes of the plus side's pieces, of the minus side's
+module _ (n x : ℕ) (p m w : List ℕ) where
+  by-first : {r : Bool} {v : List ℕ} → r ≡ true → (r ≡ supportedBy n x p w) × (v ≡ cond (supportedBy n x p w) (turnedBy n x p m w) w)
+      → (r ≡ (supportedBy n x p w || supportedBy n x m w)) × (v ≡ cond (supportedBy n x p w) (turnedBy n x p m w) (cond (supportedBy n x m w) (turnedBy n x m p w) w))
+  by-first = first-taken (turnedBy n x p m w) (turnedBy n x m p w) w (supportedBy n x p w) (supportedBy n x m w)
+
+  by-second : {r s : Bool} {v : List ℕ} → r ≡ false → r ≡ supportedBy n x p w → (s ≡ supportedBy n x m w) × (v ≡ cond (supportedBy n x m w) (turnedBy n x m p w) w)
+      → (s ≡ (supportedBy n x p w || supportedBy n x m w)) × (v ≡ cond (supportedBy n x p w) (turnedBy n x p m w) (cond (supportedBy n x m w) (turnedBy n x m p w) w))
+  by-second = second-taken (turnedBy n x p m w) (turnedBy n x m p w) w (supportedBy n x p w) (supportedBy n x m w)
+
+returns : tie.Need-returns
+returns c =
+    let f = c .before in
+    let a = f .before .before .args in
+    by-first (a .n) (a .x) (wordsOf (a .plus)) (wordsOf (a .minus)) (wordsOf (a .list)) (c .if1 .taken) (f .exchange .ensures)
+
+returns-2 : tie.Need-returns-2
+returns-2 c =
+    let f = c .before .before in
+    let a = f .before .before .args in
+    by-second (a .n) (a .x) (wordsOf (a .plus)) (wordsOf (a .minus)) (wordsOf (a .list)) (c .before .if1 .left) (f .exchange .ensures .0) (c .exchange2 .ensures)
+
+pub between-spec : {M : Type 1} → statement M
+between-spec = tie.close (tie.spec (λ c κs. search needs) returns (λ c κs. search needs) returns-2)

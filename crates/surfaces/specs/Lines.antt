@@ -1,0 +1,50 @@
+-- The lines of document 01's table of refusals that this room's calls can give, as statements over the published definitions.
+--
+--   Accepted l w        the list is a triangulation of the patch: nothing past the last rank, and Theorem 2.1
+--   NoFlip l w z        13: the list supports neither the plus pieces nor the minus pieces of circuit z
+--   BadFlip l w z       14: the flip of the list fails the test
+--   flipLines l w z     the table of `flip`
+--   placingLines l      the table of `placing`
+--
+-- The theorems: proofs/Promises.
+use mathlib.Core.List.{List, [], _∷_, _++_}
+use Prim.Native.Nat.{ℕ}
+use lib.IntN.{ℤ}
+use Rattle.algebra.specs.Answer.{Line}
+use Rattle.algebra.specs.Sign.{minus, plus}
+use Rattle.matroid.specs.Circuits.{SignVector}
+use Rattle.matroid.specs.Triangulations.{Triangulation}
+use Rattle.matroid.specs.Flips.{Supports}
+use Rattle.shots.specs.Coordinates.{pointOf}
+use Rattle.shots.specs.Patch.{countOf}
+use Rattle.shots.specs.Lines.{shotLines}
+use Rattle.circuits.specs.Sides.{signIn}
+use Rattle.circuits.specs.Lines.{NotCircuit}
+use Rattle.circuits.specs.Calls.{circuitAt}
+use Rattle.lists.specs.Lines.{Listed, PastLast, listLines}
+use Rattle.surfaces.specs.Flips.{flippedOf}
+use Rattle.surfaces.specs.Placing.{placedOf}
+
+abbrev pub Accepted : List ℤ → List ℕ → Type 0
+Accepted l w = (PastLast l w → ⊥) × Triangulation (countOf l) (pointOf l) (Listed (countOf l) w)
+
+-- the signs of circuit z
+abbrev pub signsOf : List ℤ → ℕ → SignVector
+signsOf l z = signIn (circuitAt l z)
+
+abbrev pub NoFlip : List ℤ → List ℕ → ℕ → Type 0
+NoFlip l w z = (Supports (countOf l) (Listed (countOf l) w) (signsOf l z) plus → ⊥) × (Supports (countOf l) (Listed (countOf l) w) (signsOf l z) minus → ⊥)
+
+abbrev pub BadFlip : List ℤ → List ℕ → ℕ → Type 0
+BadFlip l w z = Accepted l (flippedOf (countOf l) w (circuitAt l z)) → ⊥
+
+abbrev pub flipLines : List ℤ → List ℕ → ℕ → List Line
+flipLines l w z =
+    shotLines l ++ (listLines l w ++
+    record { number = 12; when = NotCircuit l z }
+    ∷ record { number = 13; when = NoFlip l w z }
+    ∷ record { number = 14; when = BadFlip l w z }
+    ∷ [])
+
+abbrev pub placingLines : List ℤ → List Line
+placingLines l = shotLines l ++ record { number = 14; when = Accepted l (placedOf l) → ⊥ } ∷ []

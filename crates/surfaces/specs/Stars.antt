@@ -1,0 +1,39 @@
+-- How the code finds the pieces of a circuit with what they are joined with: by sets of triples.
+--
+--   starOf n a x          for a side a of a circuit, both as masks: the triples that hold all of the circuit x but one shot of that side
+--   coneOf n k t          those of the set t that hold shot k
+--   linkedOf n x t w      the triples with a shot k outside the circuit x for which the whole cone of k in t is in the list w, and is not empty
+--   supportedBy n x t w   the list w supports the pieces whose star is t
+--   turnedBy n x t u w    the list with the star t taken out, and what belongs to the same link in the star u put in
+--   Turned, turnedOf      both, where the star t is supported, else nothing
+--
+-- That this is the flip of specs/Flips: proofs/ByStars.
+use mathlib.Core.Bool.{Bool, not, cond, _||_, _&&_}
+use mathlib.Core.List.{List}
+use Prim.Native.Nat.{ℕ}
+use lib.Dec.{ltb}
+use Rattle.algebra.specs.Loops.{any}
+use Rattle.algebra.specs.Sets.{isOn, bit}
+use Rattle.algebra.specs.Words.{clearBit, sift, bothOf, eitherOf, lessOf, meetsOf, insideOf}
+use Rattle.triples.specs.Sizes.{wordCount}
+use Rattle.triples.specs.Ranks.{tripleCount, tripleAt}
+use Rattle.triples.specs.Sets.{maskOn, holdersOf}
+
+unfoldable pub starOf : ℕ → ℕ → ℕ → List ℕ
+starOf n a x = sift wordCount (λ r. ltb r (tripleCount n) && any n (λ i. bit a i && (maskOn n (clearBit x i) (tripleAt n r) && not (isOn i (tripleAt n r)))))
+
+unfoldable pub coneOf : ℕ → ℕ → List ℕ → List ℕ
+coneOf n k t = bothOf t (holdersOf n k)
+
+-- shot k is outside the circuit, and its cone is in the list, all of it and not empty
+unfoldable pub linkedAt : ℕ → ℕ → List ℕ → List ℕ → ℕ → Bool
+linkedAt n x t w k = not (bit x k) && (meetsOf (coneOf n k t) w && insideOf (coneOf n k t) w)
+
+unfoldable pub linkedOf : ℕ → ℕ → List ℕ → List ℕ → List ℕ
+linkedOf n x t w = sift wordCount (λ r. any n (λ k. linkedAt n x t w k && isOn k (tripleAt n r)))
+
+unfoldable pub supportedBy : ℕ → ℕ → List ℕ → List ℕ → Bool
+supportedBy n x t w = meetsOf t w && (insideOf t w || insideOf (bothOf t w) (linkedOf n x t w))
+
+unfoldable pub turnedBy : ℕ → ℕ → List ℕ → List ℕ → List ℕ → List ℕ
+turnedBy n x t u w = eitherOf (lessOf w t) (cond (insideOf t w) u (bothOf u (linkedOf n x t w)))

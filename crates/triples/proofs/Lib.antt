@@ -1,0 +1,5 @@
+pub mod RankLaws
+pub mod TableLaws
+pub mod SetLaws
+pub mod SiftLaws
+pub mod RowLaws

@@ -1,0 +1,4 @@
+pub mod Sizes
+pub mod Ranks
+pub mod Tables
+pub mod Sets

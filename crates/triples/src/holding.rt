@@ -1,0 +1,82 @@
+// Sets of triples by the shots that they hold.
+ghost use mathlib.Core.Path.{_≡_};
+ghost use Prim.Native.Nat.{_*_, _≤_, _<_};
+ghost use lib.ListN.{length};
+ghost use Rattle.algebra.specs.Sets.{bit};
+ghost use Rattle.shots.specs.Sizes.{shotsMost};
+ghost use Rattle.circuits.specs.Sizes.{maskBits};
+ghost use Rattle.triples.specs.Sizes.{wordCount};
+ghost use Rattle.triples.specs.Sets.{wordsOf, fullOf, holdersOf, aroundOf, Holding};
+use super::Triples;
+use super::ranks;
+use super::rows;
+use super::sets;
+
+// Every triple of n shots.
+pub fn full(n: usize) -> Triples
+    requires { ⌜ n ≤ shotsMost ⌝ }
+    ensures { λ t. ⌜ wordsOf t ≡ fullOf n ⌝ }
+{
+    let count = ranks::count(n);
+    let mut t = sets::none();
+    let mut r = 0;
+    while r < count {
+        t = sets::with(t, r);
+        r += 1;
+    }
+    t
+}
+
+// The triples with shot k.
+fn holders(n: usize, k: usize) -> Triples
+    requires { ⌜ n ≤ shotsMost ⌝ }
+    ensures { λ t. ⌜ wordsOf t ≡ holdersOf n k ⌝ }
+{
+    let count = ranks::count(n);
+    let mut t = sets::none();
+    let mut r = 0;
+    while r < count {
+        let s = ranks::triple_at(n, r);
+        if s.i == k || s.j == k || s.k == k {
+            t = sets::with(t, r);
+        }
+        r += 1;
+    }
+    t
+}
+
+// Row k: the triples with shot k.
+pub fn fill(n: usize, held: &mut [u64])
+    requires { ⌜ (n ≤ shotsMost) × (wordCount * n ≤ length (now held)) ⌝ }
+    ensures { λ r. ⌜ (length (now (held .exit)) ≡ length (now (held .entry))) × Holding n (now (held .exit)) ⌝ }
+{
+    let mut k = 0;
+    while k < n {
+        rows::put_row(held, k, holders(n, k));
+        k += 1;
+    }
+}
+
+// Whether shot i is in the mask x.
+pub fn on(x: u16, i: usize) -> bool
+    requires { ⌜ i < maskBits ⌝ }
+    ensures { λ r. ⌜ r ≡ bit x i ⌝ }
+{
+    (x >> i) & 1 == 1
+}
+
+// The triples of the list that hold every shot of the mask x.
+pub fn around(held: &[u64], n: usize, x: u16, list: Triples) -> Triples
+    requires { ⌜ (n ≤ shotsMost) × (wordCount * n ≤ length (now held)) × Holding n (now held) ⌝ }
+    ensures { λ t. ⌜ wordsOf t ≡ aroundOf n x (wordsOf list) ⌝ }
+{
+    let mut t = list;
+    let mut k = 0;
+    while k < n {
+        if on(x, k) {
+            t = sets::both(t, rows::row_at(held, k));
+        }
+        k += 1;
+    }
+    t
+}

@@ -1,0 +1,192 @@
+// Sets of triples by their ranks: one triple by shift and mask, whole sets word by word. Only `word` and `with_word` know how many words there are.
+ghost use mathlib.Core.Path.{_≡_};
+ghost use Prim.Native.Nat.{_*_, _<_};
+ghost use lib.ListN.{getD, set, replicate};
+ghost use Rattle.algebra.specs.Words.{wordBits, member, putIn, takeOut, bothOf, eitherOf, lessOf, meetsOf, insideOf, emptyOf, aloneOf};
+ghost use Rattle.algebra.specs.Sets.{bit};
+ghost use Rattle.algebra.specs.Words.{setBit, clearBit};
+ghost use Rattle.triples.specs.Sizes.{wordCount};
+ghost use Rattle.triples.specs.Sets.{wordsOf};
+use super::Triples;
+use super::WORDS;
+
+pub fn word(list: Triples, i: usize) -> u64
+    requires { ⌜ i < wordCount ⌝ }
+    ensures { λ r. ⌜ r ≡ getD (wordsOf list) i 0 ⌝ }
+{
+    if i == 0 { list.low } else { list.high }
+}
+
+pub fn with_word(list: Triples, i: usize, x: u64) -> Triples
+    requires { ⌜ i < wordCount ⌝ }
+    ensures { λ r. ⌜ wordsOf r ≡ set (wordsOf list) i x ⌝ }
+{
+    if i == 0 {
+        return Triples {
+            low: x,
+            high: list.high,
+        };
+    }
+    Triples {
+        low: list.low,
+        high: x,
+    }
+}
+
+pub fn none() -> Triples
+    ensures { λ r. ⌜ wordsOf r ≡ replicate wordCount 0 ⌝ }
+{
+    Triples { low: 0, high: 0 }
+}
+
+// ---- one bit of a word
+
+fn test_bit(x: u64, k: usize) -> bool
+    requires { ⌜ k < wordBits ⌝ }
+    ensures { λ r. ⌜ r ≡ bit x k ⌝ }
+{
+    (x >> k) & 1 == 1
+}
+
+fn set_bit(x: u64, k: usize) -> u64
+    requires { ⌜ k < wordBits ⌝ }
+    ensures { λ r. ⌜ r ≡ setBit x k ⌝ }
+{
+    x | (1 << k)
+}
+
+fn clear_bit(x: u64, k: usize) -> u64
+    requires { ⌜ k < wordBits ⌝ }
+    ensures { λ r. ⌜ r ≡ clearBit x k ⌝ }
+{
+    x & !(1 << k)
+}
+
+// ---- one triple by its rank
+
+pub fn has(list: Triples, r: usize) -> bool
+    requires { ⌜ r < wordBits * wordCount ⌝ }
+    ensures { λ b. ⌜ b ≡ member (wordsOf list) r ⌝ }
+{
+    test_bit(word(list, r / 64), r % 64)
+}
+
+pub fn with(list: Triples, r: usize) -> Triples
+    requires { ⌜ r < wordBits * wordCount ⌝ }
+    ensures { λ t. ⌜ wordsOf t ≡ putIn (wordsOf list) r ⌝ }
+{
+    let q = r / 64;
+    with_word(list, q, set_bit(word(list, q), r % 64))
+}
+
+pub fn without(list: Triples, r: usize) -> Triples
+    requires { ⌜ r < wordBits * wordCount ⌝ }
+    ensures { λ t. ⌜ wordsOf t ≡ takeOut (wordsOf list) r ⌝ }
+{
+    let q = r / 64;
+    with_word(list, q, clear_bit(word(list, q), r % 64))
+}
+
+// ---- two sets
+
+// What is in both.
+pub fn both(a: Triples, b: Triples) -> Triples
+    ensures { λ t. ⌜ wordsOf t ≡ bothOf (wordsOf a) (wordsOf b) ⌝ }
+{
+    let mut t = a;
+    let mut i = 0;
+    while i < WORDS {
+        t = with_word(t, i, word(a, i) & word(b, i));
+        i += 1;
+    }
+    t
+}
+
+// What is in one of them.
+pub fn either(a: Triples, b: Triples) -> Triples
+    ensures { λ t. ⌜ wordsOf t ≡ eitherOf (wordsOf a) (wordsOf b) ⌝ }
+{
+    let mut t = a;
+    let mut i = 0;
+    while i < WORDS {
+        t = with_word(t, i, word(a, i) | word(b, i));
+        i += 1;
+    }
+    t
+}
+
+// What is in the first and not in the second.
+pub fn less(a: Triples, b: Triples) -> Triples
+    ensures { λ t. ⌜ wordsOf t ≡ lessOf (wordsOf a) (wordsOf b) ⌝ }
+{
+    let mut t = a;
+    let mut i = 0;
+    while i < WORDS {
+        t = with_word(t, i, word(a, i) & !word(b, i));
+        i += 1;
+    }
+    t
+}
+
+// Whether a triple is in both.
+pub fn meets(a: Triples, b: Triples) -> bool
+    ensures { λ r. ⌜ r ≡ meetsOf (wordsOf a) (wordsOf b) ⌝ }
+{
+    let mut i = 0;
+    while i < WORDS {
+        if word(a, i) & word(b, i) != 0 {
+            return true;
+        }
+        i += 1;
+    }
+    false
+}
+
+// Whether every triple of the first is in the second.
+pub fn inside(a: Triples, b: Triples) -> bool
+    ensures { λ r. ⌜ r ≡ insideOf (wordsOf a) (wordsOf b) ⌝ }
+{
+    let mut i = 0;
+    while i < WORDS {
+        if word(a, i) & word(b, i) != word(a, i) {
+            return false;
+        }
+        i += 1;
+    }
+    true
+}
+
+pub fn is_empty(a: Triples) -> bool
+    ensures { λ r. ⌜ r ≡ emptyOf (wordsOf a) ⌝ }
+{
+    let mut i = 0;
+    while i < WORDS {
+        if word(a, i) != 0 {
+            return false;
+        }
+        i += 1;
+    }
+    true
+}
+
+// Whether there is exactly one triple.
+pub fn alone(a: Triples) -> bool
+    ensures { λ r. ⌜ r ≡ aloneOf (wordsOf a) ⌝ }
+{
+    let mut met = false;
+    let mut i = 0;
+    while i < WORDS {
+        let x = word(a, i);
+        if x != 0 {
+            if met {
+                return false;
+            }
+            if x & (x - 1) != 0 {
+                return false;
+            }
+            met = true;
+        }
+        i += 1;
+    }
+    met
+}
