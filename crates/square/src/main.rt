@@ -81,7 +81,9 @@ fn print_surface(answer: Surface) {
 
 fn print_tested(answer: Tested) {
     match answer {
-        Tested::Accepted => io::write_all(STDOUT_FILENO, b" accepted"),
+        Tested::Accepted => {
+            io::write_all(STDOUT_FILENO, b" accepted");
+        }
         Tested::Refused(n) => {
             io::write_all(STDOUT_FILENO, b" ");
             print_refusal(n);
