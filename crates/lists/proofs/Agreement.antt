@@ -6,6 +6,7 @@
 --   empty-decided    10: `isEmpty` decides `NoTriple`
 --   cross-decided    8: `crossing` decides `Cross`, for an accepted patch: its numbered circuits are the published ones, or those with every sign turned
 --   open-decided     9: `openEdge` decides `OpenEdge`
+--   listed-triple    what is in the list is a triple of the shots
 --   list-decided     the rules decide the lines
 --   accepted-iff-triangulation    no line holds exactly when the list is a triangulation and has no bit past the last rank
 --
@@ -24,7 +25,7 @@ use Rattle.algebra.specs.Loops.{any}
 use Rattle.algebra.specs.Sets.{isOn, On, Within}
 use Rattle.algebra.specs.Sign.{Sign, minus, nought, plus, opposite, isNought, sameSign}
 use Rattle.algebra.specs.Words.{wordBits, member}
-use Rattle.algebra.proofs.AnswerLaws.{reflects-iff, reflects-not, reflects-or, reflects-and, reflects-leb, reflects-eqb, is-nought}
+use Rattle.algebra.proofs.AnswerLaws.{reflects-iff, reflects-not, reflects-or, reflects-and, reflects-leb, reflects-eqb, is-nought, reflects-stable}
 use Rattle.algebra.proofs.ListLaws.{getD-mem}
 use Rattle.algebra.proofs.LoopLaws.{reflects-any, reflects-test}
 use Rattle.algebra.proofs.SetTests.{reflects-on, reflects-all-on, on-low}
@@ -48,11 +49,6 @@ use Rattle.lists.specs.Tests.{isFlat, pastLast, someFlat, isEmpty, sides
 use Rattle.lists.specs.Lines.{Listed, PastLast, FlatTriple, NoTriple, Cross, OpenEdge, listLines}
 use Rattle.triples.proofs.RankLaws.{triple-at-within, rank-of-triple}
 
--- a decided statement that is not false holds
-decided-stable : {A : Type 0} {b : Bool} → Reflects A b → ((A → ⊥) → ⊥) → A
-decided-stable (holds a) k = a
-decided-stable (fails h) k = absurd (k h)
-
 -- ---- the members of a list
 
 module _ (n : ℕ) (w : List ℕ) where
@@ -69,8 +65,8 @@ module _ (n : ℕ) (w : List ℕ) where
   listed-decided = reflects-iff (λ r. (tripleAt n (r .0), (r .0, r .1, r .2, refl)), λ r. (r .1 .0, r .1 .1, r .1 .2))
       (reflects-any (λ r. member w r ≡ true) (member w) (tripleCount n) (λ r l. reflects-test (member w r)))
 
-  listed-within : (s : List ℕ) → Listed n w s → Within 0 s n × (length s ≡ 3)
-  listed-within s m = subst (λ (t : List ℕ). Within 0 t n × (length t ≡ 3)) (m .3) (triple-at-within n (m .0) (m .1))
+  pub listed-triple : (s : List ℕ) → Listed n w s → Within 0 s n × (length s ≡ 3)
+  listed-triple s m = subst (λ (t : List ℕ). Within 0 t n × (length t ≡ 3)) (m .3) (triple-at-within n (m .0) (m .1))
 
   -- ranks are one where their triples are
   one-rank : (r s : ℕ) → r < tripleCount n → s < tripleCount n → tripleAt n r ≡ tripleAt n s → r ≡ s
@@ -247,7 +243,7 @@ module _ (l : List ℤ) (w : List ℕ) where
   unfolding openEdge
   open-decided = reflects-iff (
     λ (s, m, (j, _, (i, h, ((a, b), (c, d))))). (s, i, j, m, (h, a, b), c, λ (t, k, ne, (_, x, y)). d (t, k, (ne, x, y))),
-    λ (s, i, j, m, (h, a, b), c, d). (s, m, (j, on-low s 0 n j (listed-within n w s m .0) b .1, (i, h, ((a, b), (c, λ (t, k, (ne, x, y)). d (t, k, ne, (h, x, y))))))),
+    λ (s, i, j, m, (h, a, b), c, d). (s, m, (j, on-low s 0 n j (listed-triple n w s m .0) b .1, (i, h, ((a, b), (c, λ (t, k, (ne, x, y)). d (t, k, ne, (h, x, y))))))),
   )
       (reflects-listed n w OpenIn (λ r. any n (λ j. any j (λ i. openAt l w r i j))) open-in)
 
@@ -259,7 +255,7 @@ module _ (l : List ℤ) (w : List ℕ) where
   -- ---- the published theorem
 
   some-listed : (NoTriple l w → ⊥) → (s : List ℕ) × Listed n w s
-  some-listed = decided-stable (listed-decided n w)
+  some-listed = reflects-stable (listed-decided n w)
 
   -- an edge that is not open
   closed : (OpenEdge l w → ⊥) → (s : List ℕ) → Listed n w s → (i j : ℕ) → Edge i j s → Border n P i j ⊎ ((t : List ℕ) × Listed n w t × (t ≡ s → ⊥) × Edge i j t)
@@ -277,7 +273,7 @@ module _ (l : List ℤ) (w : List ℕ) where
       into (seven, (ten, (eight, (nine, _)))) = (
         λ p. seven (inl p),
         record {
-          triples = listed-within n w;
+          triples = listed-triple n w;
           some = some-listed ten;
           full = λ s m h. seven (inr (s, m, h));
           ip = λ s t m k c. eight (s, t, m, k, c);

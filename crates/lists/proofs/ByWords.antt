@@ -45,7 +45,7 @@ use Rattle.triples.specs.Ranks.{tripleCount, tripleAt}
 use Rattle.lists.specs.Tests.{isFlat, pastLast, someFlat, isEmpty, sidesIn, crosses, crossing, shared, openAt, openEdge, listRefusalOf}
 use Rattle.triples.specs.Sets.{fullOf, holdersOf, maskOn, aroundOf}
 use Rattle.lists.specs.Held.{solidOf, innerOf, innerRow, AroundPlus, AroundMinus, Inner}
-use Rattle.triples.proofs.RankLaws.{triple-past, triples-few}
+use Rattle.triples.proofs.RankLaws.{triple-past, triples-few, past-off}
 
 -- ---- small laws
 
@@ -63,17 +63,13 @@ pub flat-past : (l : List ℤ) (n r : ℕ) → tripleCount n ≤ r → isFlat l 
 unfolding isFlat
 flat-past l n r h = rw (triple-past n r h) refl
 
-on-past : (n r i : ℕ) → tripleCount n ≤ r → isOn i (tripleAt n r) ≡ false
-unfolding isOn
-on-past n r i h = rw (triple-past n r h) refl
-
 -- what holds a shot has a rank
 pub on-ranked : (n r i : ℕ) → isOn i (tripleAt n r) ≡ true → r < tripleCount n
 on-ranked n r i h = go (decLt r (tripleCount n))
   where
     go : Dec (r < tripleCount n) → r < tripleCount n
     go (yes l) = l
-    go (no l) = absurd (true≢false (sym h ∙ on-past n r i (omega arith)))
+    go (no l) = absurd (true≢false (sym h ∙ past-off n r i (omega arith)))
 
 pub member-full : (n r : ℕ) → r < wordBits * wordCount → member (fullOf n) r ≡ ltb r (tripleCount n)
 unfolding fullOf

@@ -33,28 +33,20 @@ pub fn test(shots: &[i32], list: Triples) -> Tested
     let mut held = [0u64; HELD_WORDS];
     let mut plus = [0u16; circuits::CIRCUITS_MOST];
     let mut minus = [0u16; circuits::CIRCUITS_MOST];
-    let mut around_plus = [0u64; AROUND_WORDS];
-    let mut around_minus = [0u64; AROUND_WORDS];
+    let mut pluses = [0u64; AROUND_WORDS];
+    let mut minuses = [0u64; AROUND_WORDS];
     let mut inner = [0u64; INNER_WORDS];
     let count = core::prepare(
         shots,
         &mut held,
         &mut plus,
         &mut minus,
-        &mut around_plus,
-        &mut around_minus,
+        &mut pluses,
+        &mut minuses,
         &mut inner,
     );
     let solid = core::solid(shots);
-    let number = core::refusal(
-        shots,
-        solid,
-        &around_plus,
-        &around_minus,
-        count,
-        &inner,
-        list,
-    );
+    let number = core::refusal(shots, solid, &pluses, &minuses, count, &inner, list);
     if number != 0 {
         return Tested::Refused(number);
     }

@@ -10,7 +10,7 @@
 --   support-shots          they are those that a numbered circuit is made of; `source-at`: what it is made of
 --   piece-published        the pieces are the published ones
 --   listed-decided         `listed` decides that a triple is in the list
---   listed-triple          what is in the list is a triple of the shots; `listed-at`: the triple of rank r is in it where r is a member
+--   listed-at              the triple of rank r is in the list where r is a member
 --   link-published         the links of the pieces are the published ones
 --   supports-published     `supports` decides that the list supports the pieces
 --   Joining n w ps qs t    t is one of qs joined with a set that completes one of ps; `joins-decided`: `joins` decides it
@@ -55,6 +55,7 @@ use Rattle.circuits.proofs.Sources.{Source, from3, from4, shots, sources, Made,
 use Rattle.circuits.proofs.Signs.{sides-within, shots-in}
 use Rattle.triples.specs.Ranks.{tripleCount, tripleAt, rankOf}
 use Rattle.lists.specs.Lines.{Listed}
+use Rattle.lists.proofs.Agreement.{listed-triple}
 use Rattle.triples.proofs.RankLaws.{triple-at-within, rank-of-triple, triple-of-rank}
 use Rattle.surfaces.specs.Flips.{listed, supportOf, piecesOf, completions, completes, someLink, mixedLinks, supports, joins, exchanged}
 use Rattle.algebra.proofs.UnionLaws.{set-known, on-either, on-without, union-apart, union-meets, dropped-length}
@@ -240,9 +241,6 @@ module _ (n : ℕ) (w : List ℕ) where
   listed-decided t = reflects-iff (λ r. (r .0, r .1, r .2 .0, r .2 .1), λ r. (r .0, r .1, (r .2, r .3)))
       (reflects-any (λ r. (member w r ≡ true) × (tripleAt n r ≡ t)) (λ r. member w r && sameList (tripleAt n r) t) (tripleCount n)
       (λ r h. reflects-and (reflects-test (member w r)) (reflects-same (tripleAt n r) t)))
-
-  pub listed-triple : (t : List ℕ) → Listed n w t → Within 0 t n × (length t ≡ 3)
-  listed-triple t (r, h, m, e) = subst (λ (s : List ℕ). Within 0 s n × (length s ≡ 3)) e (triple-at-within n r h)
 
   pub listed-at : (r : ℕ) → r < tripleCount n → Listed n w (tripleAt n r) ↔ (member w r ≡ true)
   listed-at r h = (λ (q, l, m, e). subst (λ (x : ℕ). member w x ≡ true) (sym (rank-of-triple n q l) ∙ ap (rankOf n) e ∙ rank-of-triple n r h) m, λ m. (r, h, m, refl))

@@ -33,7 +33,7 @@ use Rattle.algebra.proofs.AnswerLaws.{reflects-yes, reflects-true, reflects-agr
 use Rattle.algebra.proofs.LoopLaws.{and-parts, any-some, any-no, reflects-any, reflects-test, first-passes, first-least}
 use Rattle.algebra.proofs.SetTests.{reflects-on, on-union, union-within, on-low, subset-length, subset-same}
 use Rattle.algebra.proofs.UnionLaws.{on-one, on-pair, union-apart, union-meets, third-last}
-use Rattle.algebra.proofs.WordLaws.{words-same, sift-words, member-sift, put-words, member-put, both-words, either-words, both-member, member-either, meets-reflects, alone-reflects}
+use Rattle.algebra.proofs.WordLaws.{words-same, sift-words, put-words, member-put, both-words, either-words, both-member, member-either, meets-reflects, alone-reflects}
 use Rattle.matroid.specs.Points.{Collinear, turn}
 use Rattle.matroid.proofs.Lines.{line-through}
 use Rattle.shots.specs.Sizes.{shotsMost}
@@ -47,7 +47,7 @@ use Rattle.triples.specs.Ranks.{tripleCount, tripleAt, rankOf}
 use Rattle.lists.specs.Lines.{Listed}
 use Rattle.triples.specs.Sets.{holdersOf}
 use Rattle.triples.proofs.RankLaws.{triple-at-within, rank-of-triple, triple-of-rank}
-use Rattle.triples.proofs.SiftLaws.{none-sifted}
+use Rattle.triples.proofs.SiftLaws.{none-words, none-member}
 use Rattle.lists.proofs.ByWords.{room, on-ranked, member-holders}
 use Rattle.surfaces.specs.Placing.{firstOff, beginOf, thirdIn, loneThird, opposed, visible, withEdge}
 use Rattle.surfaces.proofs.Agreement.{listed-decided}
@@ -138,16 +138,10 @@ module _ (n i j m : ℕ) (few : n ≤ shotsMost) (ij : i < j) (jn : j < n) (mn :
       ∙ sym (member-put wordCount u (rankOf n (corner n i j m)) r v corner-low))
 
 -- the set with nothing in it
-none-words : Words wordCount (replicate wordCount 0)
-none-words = subst (Words wordCount) (sym (none-sifted wordCount (λ r. false) (λ r h. refl))) (sift-words wordCount (λ r. false))
-
-none-member : (r : ℕ) → r < wordBits * wordCount → member (replicate wordCount 0) r ≡ false
-none-member r h = ap (λ (v : List ℕ). member v r) (none-sifted wordCount (λ s. false) (λ s l. refl)) ∙ member-sift wordCount (λ s. false) r h
-
 either-none : (v : List ℕ) → Words wordCount v → eitherOf (replicate wordCount 0) v ≡ v
 either-none v p =
-    words-same wordCount (eitherOf (replicate wordCount 0) v) v (either-words wordCount (replicate wordCount 0) v none-words) p
-    (λ r h. member-either (replicate wordCount 0) v r h ∙ ap (λ (b : Bool). b || member v r) (none-member r h))
+    words-same wordCount (eitherOf (replicate wordCount 0) v) v (either-words wordCount (replicate wordCount 0) v (none-words wordCount)) p
+    (λ r h. member-either (replicate wordCount 0) v r h ∙ ap (λ (b : Bool). b || member v r) (none-member wordCount r))
 
 -- ---- signs
 
@@ -238,7 +232,7 @@ module _ (l : List ℤ) (ok : refusalOf l ≡ 0) where
       let k = first-off-low in
       let few = patch-few l ok in
       sym (either-none (cornerSet (countOf l) 0 1 (firstOff l)) (both-words wordCount (edgeSet (countOf l) 0 1) (holdersOf (countOf l) (firstOff l)) (edge-words (countOf l) 0 1)))
-      ∙ corner-put (countOf l) 0 1 (firstOff l) (few .1) (omega arith) (omega arith) (k .1) (λ e. omega arith) (λ e. omega arith) (replicate wordCount 0) none-words
+      ∙ corner-put (countOf l) 0 1 (firstOff l) (few .1) (omega arith) (omega arith) (k .1) (λ e. omega arith) (λ e. omega arith) (replicate wordCount 0) (none-words wordCount)
       ∙ ap (λ (s : List ℕ). putIn (replicate wordCount 0) (rankOf (countOf l) s)) (third-last (countOf l) 0 1 (firstOff l) (omega arith) (k .0) (k .1))
 
 -- ---- what a shot sees

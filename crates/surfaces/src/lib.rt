@@ -7,6 +7,7 @@
 ghost use mathlib.Core.Path.{_≡_};
 ghost use Rattle.triples.specs.Sets.{wordsOf};
 ghost use Rattle.surfaces.specs.Calls.{readSurface, placingOf, flipOf};
+use lists::core;
 use triples::Triples;
 
 pub mod flips;
@@ -27,31 +28,21 @@ pub fn placing(shots: &[i32]) -> Surface
     let mut held = [0u64; lists::HELD_WORDS];
     let mut plus = [0u16; circuits::CIRCUITS_MOST];
     let mut minus = [0u16; circuits::CIRCUITS_MOST];
-    let mut around_plus = [0u64; lists::AROUND_WORDS];
-    let mut around_minus = [0u64; lists::AROUND_WORDS];
+    let mut pluses = [0u64; lists::AROUND_WORDS];
+    let mut minuses = [0u64; lists::AROUND_WORDS];
     let mut inner = [0u64; lists::INNER_WORDS];
-    let count = lists::core::prepare(
+    let count = core::prepare(
         shots,
         &mut held,
         &mut plus,
         &mut minus,
-        &mut around_plus,
-        &mut around_minus,
+        &mut pluses,
+        &mut minuses,
         &mut inner,
     );
-    let solid = lists::core::solid(shots);
+    let solid = core::solid(shots);
     let list = placed::all(shots, &held);
-    if lists::core::refusal(
-        shots,
-        solid,
-        &around_plus,
-        &around_minus,
-        count,
-        &inner,
-        list,
-    )
-        != 0
-    {
+    if core::refusal(shots, solid, &pluses, &minuses, count, &inner, list) != 0 {
         return Surface::Refused(14);
     }
     Surface::List(list)
@@ -67,28 +58,20 @@ pub fn flip(shots: &[i32], list: Triples, z: usize) -> Surface
     let mut held = [0u64; lists::HELD_WORDS];
     let mut plus = [0u16; circuits::CIRCUITS_MOST];
     let mut minus = [0u16; circuits::CIRCUITS_MOST];
-    let mut around_plus = [0u64; lists::AROUND_WORDS];
-    let mut around_minus = [0u64; lists::AROUND_WORDS];
+    let mut pluses = [0u64; lists::AROUND_WORDS];
+    let mut minuses = [0u64; lists::AROUND_WORDS];
     let mut inner = [0u64; lists::INNER_WORDS];
-    let count = lists::core::prepare(
+    let count = core::prepare(
         shots,
         &mut held,
         &mut plus,
         &mut minus,
-        &mut around_plus,
-        &mut around_minus,
+        &mut pluses,
+        &mut minuses,
         &mut inner,
     );
-    let solid = lists::core::solid(shots);
-    let number = lists::core::refusal(
-        shots,
-        solid,
-        &around_plus,
-        &around_minus,
-        count,
-        &inner,
-        list,
-    );
+    let solid = core::solid(shots);
+    let number = core::refusal(shots, solid, &pluses, &minuses, count, &inner, list);
     if number != 0 {
         return Surface::Refused(number);
     }
@@ -100,17 +83,7 @@ pub fn flip(shots: &[i32], list: Triples, z: usize) -> Surface
         return Surface::Refused(13);
     }
     let next = turned.list;
-    if lists::core::refusal(
-        shots,
-        solid,
-        &around_plus,
-        &around_minus,
-        count,
-        &inner,
-        next,
-    )
-        != 0
-    {
+    if core::refusal(shots, solid, &pluses, &minuses, count, &inner, next) != 0 {
         return Surface::Refused(14);
     }
     Surface::List(next)

@@ -8,7 +8,7 @@ mod tables;
 // A set has this many words.
 pub const WORDS: usize = 2;
 
-// A set of triples: rank r at bit r mod 64, from the low end, of word r div 64. Only sets::word and sets::with_word touch the words.
+// A set of triples: rank r at bit r mod 64, from the low end, of word r div 64. Only sets::word, sets::with_word and sets::none touch the words.
 pub struct Triples {
     pub low: u64,
     pub high: u64,

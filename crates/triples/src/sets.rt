@@ -1,4 +1,4 @@
-// Sets of triples by their ranks: one triple by shift and mask, whole sets word by word. Only `word` and `with_word` know how many words there are.
+// Sets of triples by their ranks: one triple by shift and mask, whole sets word by word. Only `word`, `with_word` and `none` touch the words themselves.
 ghost use mathlib.Core.Path.{_≡_};
 ghost use Prim.Native.Nat.{_*_, _<_};
 ghost use lib.ListN.{getD, set, replicate};
