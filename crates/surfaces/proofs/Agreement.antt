@@ -19,7 +19,7 @@
 --   exchanged-published    the triples of the exchanged list
 --   flip-published-side    where the pieces are supported, it is the flip
 --   exchanged-words        it is as many words; `exchanged-past`: nothing is put in past the last rank
---   extensional, flip-one  lists with the same triples are the same; so two results of one flip are
+--   extensional, one-flip  lists with the same triples are the same; so two results of one flip are
 --
 -- Source 001, section 3.4; document 01, "Flips".
 use mathlib.Core.Path.{_≡_, refl, sym, _∙_, ap, subst}
@@ -451,5 +451,5 @@ module _ (n m : ℕ) (v w : List ℕ) (p : Words m v) (q : Words m w) (b : tripl
       (λ r l. reflects-agree (reflects-iff (listed-at n v r l .1, listed-at n v r l .0) (reflects-test (member v r)))
       (reflects-iff (λ e. h (tripleAt n r) .1 (listed-at n w r l .1 e), λ e. listed-at n w r l .0 (h (tripleAt n r) .0 e)) (reflects-test (member w r))))
 
-  pub flip-one : {T : Family} {X : SignVector} {s : Sign} → Flip n T X s (Listed n v) → Flip n T X s (Listed n w) → v ≡ w
-  flip-one h k = extensional (λ t. (λ x. k .exchanged t .1 (h .exchanged t .0 x), λ x. h .exchanged t .1 (k .exchanged t .0 x)))
+  pub one-flip : {T : Family} {X : SignVector} {s : Sign} → Flip n T X s (Listed n v) → Flip n T X s (Listed n w) → v ≡ w
+  one-flip h k = extensional (λ t. (λ x. k .exchanged t .1 (h .exchanged t .0 x), λ x. h .exchanged t .1 (k .exchanged t .0 x)))

@@ -9,7 +9,7 @@
 --   put-in-new-here                  what a flip puts in was not in the list
 --   flip-words                       the list given has as many words
 --   flip-back-again                  the flip along the same circuit leads back
---   flip-one-answer, placing-one-answer    two permitted answers are the same
+--   flip-one, placing-one    two permitted answers are the same
 --
 -- That the pieces, links and stars are the published ones: proofs/Agreement. Source: document 01, "Flips", "The placing surface".
 use mathlib.Core.Path.{_≡_, refl, sym, _∙_, subst}
@@ -57,7 +57,7 @@ use Rattle.surfaces.specs.Calls.{readSurface, badResult, placingOf, noFl
 use Rattle.surfaces.specs.declared.Surface.{Surface}
 use Rattle.surfaces.specs.declared.Surface.the-variants as S
 use Rattle.surfaces.proofs.Agreement.{Side, other-side, nought-side, sideOf, swapped, numbered, listed-at, supports-published, star-published, star-dec}
-use Rattle.surfaces.proofs.Agreement.{flip-published-side, exchanged-words, exchanged-past, flip-one}
+use Rattle.surfaces.proofs.Agreement.{flip-published-side, exchanged-words, exchanged-past, one-flip}
 
 -- ---- the rules decide the lines
 
@@ -203,7 +203,7 @@ module _ (l : List ℤ) where
       flipped-is : (s : Sign) → Side s → (w′ : List ℕ) → Words wordCount w′ → Accepted l w′ → Flip n (Listed n w) (signsOf l z) s (Listed n w′) → flippedOf n w (circuitAt l z) ≡ w′
       flipped-is s d w′ v′ a′ f =
           flipped-side s d (f .supported)
-          ∙ flip-one n wordCount (swapped n w (circuitAt l z) s) w′ (exchanged-words n wordCount w _ _ v) v′ (let e = v .0 in let b = fits w v ok in omega arith)
+          ∙ one-flip n wordCount (swapped n w (circuitAt l z) s) w′ (exchanged-words n wordCount w _ _ v) v′ (let e = v .0 in let b = fits w v ok in omega arith)
           (λ r m. exchanged-past n wordCount w _ _ v r m (none-past w v (a .0) r m)) (none-past w′ v′ (a′ .0)) (flip-published-side (numbered l z h) w s d (fits w v ok) (f .supported)) f
 
   module _ (w w′ : List ℕ) (z : ℕ) where
@@ -262,8 +262,8 @@ surface-back : (r : Surface) → surfaceAs (readSurface r) ≡ r
 surface-back (S.List t) = refl
 surface-back (S.Refused n) = refl
 
-pub flip-one-answer : (l : List ℤ) (w : List ℕ) (z : ℕ) (r r′ : Surface) → readSurface r ≡ flipOf l w z → readSurface r′ ≡ flipOf l w z → r ≡ r′
-flip-one-answer l w z r r′ = one-answer readSurface surfaceAs surface-back
+pub flip-one : (l : List ℤ) (w : List ℕ) (z : ℕ) (r r′ : Surface) → readSurface r ≡ flipOf l w z → readSurface r′ ≡ flipOf l w z → r ≡ r′
+flip-one l w z r r′ = one-answer readSurface surfaceAs surface-back
 
-pub placing-one-answer : (l : List ℤ) (r r′ : Surface) → readSurface r ≡ placingOf l → readSurface r′ ≡ placingOf l → r ≡ r′
-placing-one-answer l r r′ = one-answer readSurface surfaceAs surface-back
+pub placing-one : (l : List ℤ) (r r′ : Surface) → readSurface r ≡ placingOf l → readSurface r′ ≡ placingOf l → r ≡ r′
+placing-one l r r′ = one-answer readSurface surfaceAs surface-back
