@@ -10,14 +10,16 @@
 --   pos-signOf, neg-signOf, zero-signOf     and back
 --   signOf-opposite, opposite-opposite, nought-opposite     a number and its negative
 --   plus-minus, plus-nought, minus-nought     signs are told apart
+--   other-side, nought-side, sides-differ     the opposite of a side is a side, and another one; nought is none
 --   opposite-signed, same-self, same-turned, turned-other, value-nought      the tests of signs
 use mathlib.Core.Path.{_≡_, refl, sym, _∙_, ap, ap₂, subst}
+use mathlib.Core.Logic.{inl, inr, ⊎-elim}
 use mathlib.Core.Bool.{true, false, not, true≢false}
 use mathlib.Core.List.{[], _∷_}
 use Prim.Native.Nat.{ℕ, zero, suc, _+_, _*_}
 use native.Mathlib.Omega.{arith}
 use lib.IntN.{ℤ, pos, negsuc, negℤ, _+ℤ_, _*ℤ_, negℤ-negℤ, *ℤ-zero, zero-*ℤ, ℤ-discrete}
-use Rattle.algebra.specs.Sign.{Sign, minus, nought, plus, signOf, opposite, value, isNought, sameSign, eqZ, Pos, NN, Neg, NP, NZ, Tri, below, at-nought, above}
+use Rattle.algebra.specs.Sign.{Sign, minus, nought, plus, signOf, opposite, value, isNought, sameSign, eqZ, Pos, NN, Neg, NP, NZ, Tri, below, at-nought, above, Side}
 use Rattle.algebra.proofs.Ring.{cst, var, _⊕_, _⊗_, neg, ring}
 
 pub tri : (z : ℤ) → Tri z
@@ -210,6 +212,17 @@ plus-nought e = absurd (subst IsPlus e tt)
 
 pub minus-nought : {X : Type 0} → minus ≡ nought → X
 minus-nought e = absurd (subst IsMinus e tt)
+
+pub nought-side : Side nought → ⊥
+nought-side d = ⊎-elim (λ e. plus-nought (sym e)) (λ e. minus-nought (sym e)) d
+
+pub other-side : (s : Sign) → Side s → Side (opposite s)
+unfolding opposite
+other-side s d = ⊎-elim (λ e. inr (ap opposite e)) (λ e. inl (ap opposite e)) d
+
+pub sides-differ : (s : Sign) → Side s → opposite s ≡ s → ⊥
+unfolding opposite
+sides-differ s d e = ⊎-elim (λ q. plus-minus (sym q ∙ sym e ∙ ap opposite q)) (λ q. plus-minus (sym (ap opposite q) ∙ e ∙ q)) d
 
 pub pos-signOf : (z : ℤ) → signOf z ≡ plus → Pos z
 pos-signOf z e = go (tri z)

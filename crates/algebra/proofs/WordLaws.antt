@@ -6,7 +6,7 @@
 --   put-words, member-put, put-here, put-other         a number put in
 --   take-words, member-take, take-here, take-other     a number taken out
 --   both-words, either-words, less-words, member-both, member-either, member-less    sets made of two
---   meets-reflects, inside-reflects, empty-reflects, alone-reflects    the tests decide what they say
+--   meets-reflects, inside-reflects, alone-reflects    the tests decide what they say
 --   sift-all, both-member, meets-at, inside-at         the same with no bound on the numbers
 --   combined, meets-words, inside-words, empty-words   the same word by word, as the loops of the code go
 --   row-length, row-at, row-same, row-other, setRow-length     rows of a table
@@ -25,12 +25,12 @@ use lib.Bits.{bitAnd, and-lt}
 use lib.ListN.{length, getD, set, length-set, List·getD-eq-default}
 use lib.Seq.{ext-getD, set-out, getD-set-same, getD-set-other}
 use borrow.Author.Tests.{not-false, lt-ltb, eq-eqb, ne-eqb}
-use Rattle.algebra.specs.Answer.{Reflects, holds, fails}
+use Rattle.algebra.specs.Answer.{Reflects}
 use Rattle.algebra.specs.Loops.{any, every, fold, picks, tabulate}
 use Rattle.algebra.specs.Sets.{bit, maskOf}
 use Rattle.algebra.specs.Words.{wordBits, setBit, clearBit, Words, member, putIn, takeOut, sift, bothOf, eitherOf, lessOf, meetsOf, insideOf, emptyOf, aloneOf, rowOf, setRow}
 use Rattle.algebra.proofs.AnswerLaws.{reflects-yes, reflects-no, reflects-true, reflects-false, reflects-iff, reflects-not, reflects-and}
-use Rattle.algebra.proofs.LoopLaws.{and-parts, any-none, any-no, any-some, any-same, any-last, any-add, every-same, every-not, reflects-any, reflects-test, reflects-lone}
+use Rattle.algebra.proofs.LoopLaws.{and-parts, any-none, any-some, any-same, any-last, any-add, every-same, every-not, reflects-any, reflects-test, reflects-lone}
 use Rattle.algebra.proofs.LoopLaws.{length-tabulate, getD-tabulate, tabulate-same}
 use Rattle.algebra.proofs.SetTests.{isOn-picks, picks-within}
 use Rattle.algebra.proofs.BitLaws.{mask-below, bit-mask}
@@ -57,9 +57,9 @@ words-same k v w p q h =
     ext-getD 0 v w (p .0 ∙ sym (q .0))
     (λ i l. bits-same wordBits (getD v i 0) (getD w i 0) (p .1 i) (q .1 i) (λ j u. bit-member v i j u ∙ h (wordBits * i + j) (let e = p .0 in omega arith) ∙ sym (bit-member w i j u)))
 
-pub same-members : (k m : ℕ) (v w : List ℕ) → Words k v → Words k w → m ≤ wordBits * k → ((r : ℕ) → m ≤ r → member v r ≡ false) → ((r : ℕ) → m ≤ r → member w r ≡ false)
+pub same-members : (k m : ℕ) (v w : List ℕ) → Words k v → Words k w → ((r : ℕ) → m ≤ r → member v r ≡ false) → ((r : ℕ) → m ≤ r → member w r ≡ false)
     → (v ≡ w) ↔ ((r : ℕ) → r < m → member v r ≡ member w r)
-same-members k m v w p q b f g = (λ e r l. ap (λ (u : List ℕ). member u r) e, λ h. words-same k v w p q (λ r l. at h r (decLt r m)))
+same-members k m v w p q f g = (λ e r l. ap (λ (u : List ℕ). member u r) e, λ h. words-same k v w p q (λ r l. at h r (decLt r m)))
   where
     at : ((r : ℕ) → r < m → member v r ≡ member w r) → (r : ℕ) → Dec (r < m) → member v r ≡ member w r
     at h r (yes l) = h r l
@@ -218,14 +218,6 @@ inside-reflects v w =
         go : (b : Bool) → member w r ≡ b → b ≡ true
         go true q = refl
         go false q = absurd (h (r, l, (e, λ z. false≢true (sym q ∙ z))))
-
-pub empty-reflects : (v : List ℕ) → Reflects ((r : ℕ) → r < wordBits * length v → member v r ≡ false) (emptyOf v)
-unfolding emptyOf
-empty-reflects v = go (any (wordBits * length v) (member v)) refl
-  where
-    go : (b : Bool) → any (wordBits * length v) (member v) ≡ b → Reflects ((r : ℕ) → r < wordBits * length v → member v r ≡ false) (not b)
-    go true e = fails (λ h. let q = any-some (member v) (wordBits * length v) e in true≢false (sym (q .2) ∙ h (q .0) (q .1)))
-    go false e = holds (λ r l. any-no (member v) (wordBits * length v) r e l)
 
 pub alone-reflects : (v : List ℕ)
     → Reflects ((r : ℕ) × (r < wordBits * length v) × (member v r ≡ true) × ((s : ℕ) → s < wordBits * length v → member v s ≡ true → s ≡ r)) (aloneOf v)

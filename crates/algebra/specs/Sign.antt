@@ -8,10 +8,12 @@
 --   NN z, NP z    z is not negative, not positive: z ≡ by, -z ≡ by
 --   NZ z          z is not 0
 --   Tri z         one of the three
+--   Side s        one of the two sides: plus or minus
 --   isMinus, isNought, isPlus, sameSign, eqZ    the same as tests
 --
 -- Laws: proofs/SignLaws.
 use mathlib.Core.Path.{_≡_}
+use mathlib.Core.Logic.{_⊎_}
 use mathlib.Core.Bool.{Bool, true, false}
 use Prim.Native.Nat.{ℕ, zero, suc}
 use lib.Dec.{eqb}
@@ -56,6 +58,9 @@ pub data Tri (z : ℤ) : Type 0 where
   below : Neg z → Tri z
   at-nought : z ≡ pos 0 → Tri z
   above : Pos z → Tri z
+
+abbrev pub Side : Sign → Type 0
+Side s = (s ≡ plus) ⊎ (s ≡ minus)
 
 -- ---- tests
 

@@ -2,9 +2,11 @@
 --
 --   solidOf l           the triples that are not flat
 --   innerOf l i j       the triples that hold i and j; none where they are a border pair
---   Around l side t     row z holds the triples around a side of circuit z
---   Inner l t           row `innerRow` i j holds the inner triples of i < j
+--   innerRow i j        the row of the pair i < j
+--   InnerBelow l n t    that row holds the inner triples of the pair, for each pair below n; Inner l t: for each pair of the patch
 --   InnerWith l j k t u   u is t with the rows of the pairs i, j filled, for each i below k
+--   AroundPlus l t, AroundMinus l t    row z holds the triples around the plus side, around the minus side of circuit z
+--   Sided l p m         place z of p and of m holds the masks of the sides of circuit z
 --   Prepared            all of it, for one patch
 --
 -- That tests by these sets are those of document 01: proofs/ByWords.

@@ -6,17 +6,20 @@
 ghost use mathlib.Core.Path.{_≡_};
 ghost use Rattle.triples.specs.Sets.{wordsOf};
 ghost use Rattle.lists.specs.Calls.{readTested, testOf};
+use circuits::CIRCUITS_MOST;
+use shots::SHOTS_MOST;
 use triples::Triples;
+use triples::WORDS;
 
 pub mod core;
 pub mod edges;
 
 // The words of the arrays that a test works out: a row for each shot, for each circuit, for each pair.
-pub const HELD_WORDS: usize = 20;
+pub const HELD_WORDS: usize = WORDS * SHOTS_MOST;
 
-pub const AROUND_WORDS: usize = 660;
+pub const AROUND_WORDS: usize = WORDS * CIRCUITS_MOST;
 
-pub const INNER_WORDS: usize = 200;
+pub const INNER_WORDS: usize = WORDS * SHOTS_MOST * SHOTS_MOST;
 
 pub enum Tested {
     Accepted,
@@ -31,8 +34,8 @@ pub fn test(shots: &[i32], list: Triples) -> Tested
         return Tested::Refused(refusal);
     }
     let mut held = [0u64; HELD_WORDS];
-    let mut plus = [0u16; circuits::CIRCUITS_MOST];
-    let mut minus = [0u16; circuits::CIRCUITS_MOST];
+    let mut plus = [0u16; CIRCUITS_MOST];
+    let mut minus = [0u16; CIRCUITS_MOST];
     let mut pluses = [0u64; AROUND_WORDS];
     let mut minuses = [0u64; AROUND_WORDS];
     let mut inner = [0u64; INNER_WORDS];

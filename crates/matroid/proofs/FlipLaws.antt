@@ -8,7 +8,7 @@
 --
 -- The definitions: specs/Flips. Source 001, section 3.4.
 use mathlib.Core.Path.{_≡_, refl, sym, _∙_, ap, subst}
-use mathlib.Core.Logic.{_⊎_, inl, inr, ⊎-elim, _↔_}
+use mathlib.Core.Logic.{_⊎_, inl, inr, ⊎-elim}
 use mathlib.Core.Bool.{not, _&&_}
 use mathlib.Core.List.{List}
 use Prim.Native.Nat.{ℕ, zero, suc, _<_}
@@ -19,11 +19,12 @@ use lib.IntN.{ℤ, pos, negℤ, _+ℤ_, +ℤ-comm}
 use Rattle.algebra.specs.Answer.{Reflects}
 use Rattle.algebra.specs.Loops.{picks}
 use Rattle.algebra.specs.Sets.{isOn, On, Within, union}
-use Rattle.algebra.specs.Sign.{Sign, minus, nought, plus, opposite, isNought, Pos, NN, Tri, below, at-nought, above}
+use Rattle.algebra.specs.Sign.{Side, Sign, minus, nought, plus, opposite, isNought, Pos, NN, Tri, below, at-nought, above}
 use Rattle.algebra.specs.Sum.{sum}
-use Rattle.algebra.proofs.AnswerLaws.{reflects-yes, reflects-true, reflects-iff, reflects-agree, reflects-not, reflects-or, reflects-and, reflects-ltb, reflects-eqb, is-nought}
-use Rattle.algebra.proofs.SetTests.{reflects-on, on-low, set-same, isOn-picks, picks-within, on-union, union-within}
-use Rattle.algebra.proofs.SignLaws.{tri, nn-zero, nn-add, pos-zero, pos-nn-add, neg-nn, np-of, neg-zero, dec-pos, signOf-pos, opposite-opposite, plus-minus, plus-nought, minus-nought}
+use Rattle.algebra.proofs.AnswerLaws.{reflects-yes, reflects-true, reflects-not, reflects-and, reflects-ltb, reflects-eqb, is-nought}
+use Rattle.algebra.proofs.UnionLaws.{set-known, on-either}
+use Rattle.algebra.proofs.SetTests.{on-low, isOn-picks, picks-within, union-within}
+use Rattle.algebra.proofs.SignLaws.{other-side, nought-side, sides-differ, tri, nn-zero, nn-add, pos-zero, pos-nn-add, neg-nn, np-of, neg-zero, dec-pos, signOf-pos, opposite-opposite, plus-nought, minus-nought}
 use Rattle.matroid.specs.Points.{Configuration}
 use Rattle.matroid.specs.Circuits.{SignVector, Circuit}
 use Rattle.matroid.specs.Triangulations.{Family, Triangulation}
@@ -33,18 +34,6 @@ use Rattle.matroid.proofs.Dependent.{somewhere-nowhere, dep-neg}
 use Rattle.matroid.proofs.Conforming.{circuit-against}
 
 -- ---- the two sides
-
-module _ {s : Sign} (d : (s ≡ plus) ⊎ (s ≡ minus)) where
-  side-signed : s ≡ nought → ⊥
-  side-signed e = ⊎-elim (λ q. plus-nought (sym q ∙ e)) (λ q. minus-nought (sym q ∙ e)) d
-
-  other-side : (opposite s ≡ plus) ⊎ (opposite s ≡ minus)
-  unfolding opposite
-  other-side = ⊎-elim (λ q. inr (ap opposite q)) (λ q. inl (ap opposite q)) d
-
-  sides-differ : opposite s ≡ s → ⊥
-  unfolding opposite
-  sides-differ e = ⊎-elim (λ q. plus-minus (sym q ∙ sym e ∙ ap opposite q)) (λ q. plus-minus (sym (ap opposite q) ∙ e ∙ q)) d
 
 -- a sum of numbers that are not negative is 0 only where they all are
 nn-sum : (n : ℕ) (f : ℕ → ℤ) → ((i : ℕ) → i < n → NN (f i)) → NN (sum n f)
@@ -74,7 +63,7 @@ module _ {n : ℕ} {P : Configuration} where
       go (inr none) = somewhere-nowhere (z .somewhere)
           (λ i l. neg-zero (z .by i) (nn-sum-zero n (λ j. negℤ (z .by j)) (λ j k. np-of (z .by j) (none j k)) (dep-neg n P (z .by) (z .dependency) .ones) i l))
 
-  some-side : {X : SignVector} → Circuit n P X → (s : Sign) → (s ≡ plus) ⊎ (s ≡ minus) → (a : ℕ) × (a < n) × (X a ≡ s)
+  some-side : {X : SignVector} → Circuit n P X → (s : Sign) → Side s → (a : ℕ) × (a < n) × (X a ≡ s)
   unfolding opposite
   some-side {X} z s (inl e) = let r = some-plus z in (r .0, r .1, r .2 ∙ sym e)
   some-side {X} z s (inr e) = let r = some-plus (circuit-against z) in (r .0, r .1, sym (opposite-opposite (X (r .0))) ∙ ap opposite (r .2) ∙ sym e)
@@ -94,27 +83,20 @@ module _ (n : ℕ) (X : SignVector) where
       on i = rw (isOn-picks (λ j. not (isNought (X j)) && not (eqb j a)) n i) (reflects-and (reflects-ltb i n) (reflects-and (reflects-not (is-nought (X i))) (reflects-not (reflects-eqb i a))))
 
   -- a piece of a side holds the other side
-  piece-holds : (s : Sign) → (s ≡ plus) ⊎ (s ≡ minus) → (p : List ℕ) → Piece n X s p → (i : ℕ) → i < n → X i ≡ opposite s → On p i
-  piece-holds s d p q i l e = q .4 i l .1 (λ z. side-signed (other-side d) (sym e ∙ z), λ z. sides-differ d (sym e ∙ ap X z ∙ q .2))
+  piece-holds : (s : Sign) → Side s → (p : List ℕ) → Piece n X s p → (i : ℕ) → i < n → X i ≡ opposite s → On p i
+  piece-holds s d p q i l e = q .4 i l .1 (λ z. nought-side (subst Side (sym e ∙ z) (other-side s d)), λ z. sides-differ s d (sym e ∙ ap X z ∙ q .2))
 
-  joined-holds : (s : Sign) → (s ≡ plus) ⊎ (s ≡ minus) → (p c t : List ℕ) → Piece n X s p → Joins p c t → (i : ℕ) → i < n → X i ≡ opposite s → On t i
+  joined-holds : (s : Sign) → Side s → (p c t : List ℕ) → Piece n X s p → Joins p c t → (i : ℕ) → i < n → X i ≡ opposite s → On t i
   joined-holds s d p c t q j i l e = j .0 i .1 (inl (piece-holds s d p q i l e))
 
--- a set is known by its numbers
-known : (n : ℕ) (s t : List ℕ) → Within 0 s n → Within 0 t n → ((i : ℕ) → i < n → On s i ↔ On t i) → s ≡ t
-known n s t v w h = set-same s t n v w (λ i l. reflects-agree (reflects-on i s) (reflects-iff (h i l .1, h i l .0) (reflects-on i t)))
-
 union-joins : (n : ℕ) (p c : List ℕ) → Within 0 p n → Within 0 c n → ((i : ℕ) → On p i → On c i → ⊥) → Joins p c (union n p c)
-union-joins n p c v w h = (λ i. (λ o. reflects-yes (on i) o .1, λ o. reflects-true (on i) (⊎-elim (λ q. on-low p 0 n i v q .1) (λ q. on-low c 0 n i w q .1) o, o)), h)
-  where
-    on : (i : ℕ) → Reflects ((i < n) × (On p i ⊎ On c i)) (isOn i (union n p c))
-    on i = rw (on-union n p c i) (reflects-and (reflects-ltb i n) (reflects-or (reflects-on i p) (reflects-on i c)))
+union-joins n p c v w h = (on-either n p c v w, h)
 
 -- ---- one triangulation
 
 module _ {n : ℕ} {P : Configuration} {T : Family} {X : SignVector} (g : Triangulation n P T) (z : Circuit n P X) where
   -- the sides are not inside two members
-  sides-apart : (s : Sign) → (s ≡ plus) ⊎ (s ≡ minus) → (t u : List ℕ) → T t → T u → ((i : ℕ) → i < n → X i ≡ s → On t i) → ((i : ℕ) → i < n → X i ≡ opposite s → On u i) → ⊥
+  sides-apart : (s : Sign) → Side s → (t u : List ℕ) → T t → T u → ((i : ℕ) → i < n → X i ≡ s → On t i) → ((i : ℕ) → i < n → X i ≡ opposite s → On u i) → ⊥
   unfolding opposite
   sides-apart s (inl e) t u m k h j = g .ip t u m k (record { by = X; circuit = z; left = λ i l q. h i l (q ∙ sym e); right = λ i l q. j i l (q ∙ sym (ap opposite e)) })
   sides-apart s (inr e) t u m k h j = g .ip u t k m (record { by = X; circuit = z; left = λ i l q. j i l (q ∙ sym (ap opposite e)); right = λ i l q. h i l (q ∙ sym e) })
@@ -129,10 +111,10 @@ module _ {n : ℕ} {P : Configuration} {T : Family} {X : SignVector} (g : Triang
       let (p′, c′, q′, (w′, (t′, m′, j′))) = k .some in
       sides-apart plus (inl refl) t′ t m′ m (joined-holds n X minus (inr refl) p′ c′ t′ q′ j′) (joined-holds n X plus (inl refl) p c t q j)
 
-  pub put-in-new : {s : Sign} → (s ≡ plus) ⊎ (s ≡ minus) → (t : List ℕ) → Star n T X s (opposite s) t → T t → ⊥
+  pub put-in-new : {s : Sign} → Side s → (t : List ℕ) → Star n T X s (opposite s) t → T t → ⊥
   put-in-new {s} d t r m =
       let (w, (p, c, b, q, (v, (u, m′, k)), q′, j)) = r in
-      sides-apart s d t u m m′ (λ i l e. joined-holds n X (opposite s) (other-side d) b c t q′ j i l (e ∙ sym (opposite-opposite s))) (joined-holds n X s d p c u q k)
+      sides-apart s d t u m m′ (λ i l e. joined-holds n X (opposite s) (other-side s d) b c t q′ j i l (e ∙ sym (opposite-opposite s))) (joined-holds n X s d p c u q k)
 
   pub link-off : {s : Sign} → (p c : List ℕ) → Piece n X s p → Link n T p c → (i : ℕ) → i < n → (X i ≡ nought → ⊥) → On c i → ⊥
   link-off {s} p c q v i l e o =
@@ -155,14 +137,14 @@ pub taken-out-old : {n : ℕ} {P : Configuration} {T : Family} {X : SignVector} 
 taken-out-old {n} {P} {T} {X} {s} g h t r =
     let (w, (p, c, b, q, v, q′, j)) = r in
     let (v₀, (u, m, k)) = h .same p b c q q′ v in
-    subst T (known n u t (g .triples u m .0) w (λ i l. (λ o. j .0 i .1 (k .0 i .0 o), λ o. k .0 i .1 (j .0 i .0 o)))) m
+    subst T (set-known n u t (g .triples u m .0) w (λ i l. (λ o. j .0 i .1 (k .0 i .0 o), λ o. k .0 i .1 (j .0 i .0 o)))) m
 
 -- ---- there and back
 
-module _ {n : ℕ} {P : Configuration} {T T′ : Family} {X : SignVector} {s : Sign} (g : Triangulation n P T) (g′ : Triangulation n P T′) (z : Circuit n P X) (d : (s ≡ plus) ⊎ (s ≡ minus)) (f : Flip n T X s T′) where
+module _ {n : ℕ} {P : Configuration} {T T′ : Family} {X : SignVector} {s : Sign} (g : Triangulation n P T) (g′ : Triangulation n P T′) (z : Circuit n P X) (d : Side s) (f : Flip n T X s T′) where
   -- a piece of the other side, and those whose link a set is in: before the flip for the one side, after it for the other
   otherPiece : (b : List ℕ) × Piece n X (opposite s) b
-  otherPiece = let r = some-side z (opposite s) (other-side d) in (pieceOf n X (r .0), piece-of n X (opposite s) (r .0) (r .1) (r .2))
+  otherPiece = let r = some-side z (opposite s) (other-side s d) in (pieceOf n X (r .0), piece-of n X (opposite s) (r .0) (r .1) (r .2))
 
   link-after : (p b c : List ℕ) → Piece n X s p → Piece n X (opposite s) b → Link n T p c → Link n T′ b c
   link-after p b c q q′ v = (v .0, (union n b c, f .exchanged (union n b c) .1 (inr (union-within n b c, (p, c, b, q, v, q′, joins))), joins))
@@ -176,13 +158,13 @@ module _ {n : ℕ} {P : Configuration} {T T′ : Family} {X : SignVector} {s : S
       stayed : (t : List ℕ) → Joins b c t → T t → ⊥
       stayed t j m =
           let (p, c′, q′, (v′, (u, m′, k))) = f .supported .some in
-          sides-apart g z s d t u m m′ (λ i l e. joined-holds n X (opposite s) (other-side d) b c t q j i l (e ∙ sym (opposite-opposite s))) (joined-holds n X s d p c′ u q′ k)
+          sides-apart g z s d t u m m′ (λ i l e. joined-holds n X (opposite s) (other-side s d) b c t q j i l (e ∙ sym (opposite-opposite s))) (joined-holds n X s d p c′ u q′ k)
 
       -- two sets off the circuit that complete pieces to one set are the same
       came : (t : List ℕ) → Joins b c t → Star n T X s (opposite s) t → (p : List ℕ) × Piece n X s p × Link n T p c
       came t j r =
           let (w, (p, c′, b′, q₁, v₁, q₂, k)) = r in
-          let e : c′ ≡ c = known n c′ c (v₁ .0) (v .0) (λ i l. (
+          let e : c′ ≡ c = set-known n c′ c (v₁ .0) (v .0) (λ i l. (
             λ o. ⊎-elim (λ y. absurd (link-off g z p c′ q₁ v₁ i l (q .4 i l .0 y .0) o)) (λ y. y) (j .0 i .0 (k .0 i .1 (inr o))),
             λ o. ⊎-elim (λ y. absurd (link-off g′ z b c q v i l (q₂ .4 i l .0 y .0) o)) (λ y. y) (k .0 i .0 (j .0 i .1 (inr o))),
           )) in
@@ -218,6 +200,6 @@ module _ {n : ℕ} {P : Configuration} {T T′ : Family} {X : SignVector} {s : S
       out t (inl r) = ⊎-elim (λ k. k .0) (λ k. absurd (r .1 (star-after (opposite s) t k))) (f .exchanged t .0 (r .0))
       out t (inr r) = taken-out-old g (f .supported) t (subst (λ (q : Sign). Star n T X s q t) (opposite-opposite s) (star-before (opposite (opposite s)) t r))
 
-pub flip-back : {n : ℕ} {P : Configuration} {T T′ : Family} {X : SignVector} {s : Sign} → Triangulation n P T → Triangulation n P T′ → Circuit n P X → (s ≡ plus) ⊎ (s ≡ minus)
+pub flip-back : {n : ℕ} {P : Configuration} {T T′ : Family} {X : SignVector} {s : Sign} → Triangulation n P T → Triangulation n P T′ → Circuit n P X → Side s
     → ((t : List ℕ) → Dec (Star n T X s s t)) → Flip n T X s T′ → Flip n T′ X (opposite s) T
 flip-back g g′ z d dec f = back g g′ z d f dec

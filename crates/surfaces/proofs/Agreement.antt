@@ -1,6 +1,5 @@
 -- The flip that computes, over increasing lists, is the published one. For a circuit z of n shots, a list w as the family of its triples, and a side s (plus or minus):
 --
---   Side s                 s is plus or minus; `other-side`: so is its opposite; `nought-side`: nought is not
 --   sideOf z s             the shots of the side s
 --   swapped n w z s        the list with the pieces of the side s exchanged for those of the other
 --   Proper n z             the sides are increasing and below n, they have no shot in common, and are three or four shots together
@@ -34,14 +33,14 @@ use lib.IntN.{ℤ}
 use borrow.Author.Tests.{le-ltb}
 use Rattle.algebra.specs.Answer.{Reflects, holds, fails}
 use Rattle.algebra.specs.Sets.{isOn, On, sameList, union, dropped, Within, setsOf}
-use Rattle.algebra.specs.Sign.{Sign, minus, nought, plus, opposite, isNought, sameSign}
+use Rattle.algebra.specs.Sign.{Sign, minus, nought, plus, opposite, isNought, sameSign, Side}
 use Rattle.algebra.specs.Words.{wordBits, Words, member}
 use Rattle.algebra.proofs.AnswerLaws.{reflects-yes, reflects-true, reflects-stable, reflects-agree, reflects-iff, reflects-not, reflects-or, reflects-and, reflects-ltb}
 use Rattle.algebra.proofs.ListLaws.{getD-mem}
 use Rattle.algebra.proofs.LoopLaws.{reflects-any, reflects-anyOf, reflects-test}
 use Rattle.algebra.proofs.SetLaws.{picks-same}
 use Rattle.algebra.proofs.SetTests.{reflects-same, mem-on, mem-sets, on-low, union-within, dropped-within}
-use Rattle.algebra.proofs.SignLaws.{plus-minus, plus-nought, minus-nought, opposite-signed}
+use Rattle.algebra.proofs.SignLaws.{plus-minus, plus-nought, minus-nought, opposite-signed, other-side, nought-side}
 use Rattle.algebra.proofs.WordLaws.{member-past, same-members, sift-words, member-sift}
 use Rattle.matroid.specs.Circuits.{SignVector}
 use Rattle.matroid.specs.Triangulations.{Family}
@@ -59,16 +58,6 @@ use Rattle.lists.proofs.Agreement.{listed-triple}
 use Rattle.triples.proofs.RankLaws.{triple-at-within, rank-of-triple, triple-of-rank}
 use Rattle.surfaces.specs.Flips.{listed, supportOf, piecesOf, completions, completes, someLink, mixedLinks, supports, joins, exchanged}
 use Rattle.algebra.proofs.UnionLaws.{set-known, on-either, on-without, union-apart, union-meets, dropped-length}
-
-abbrev pub Side : Sign → Type 0
-Side s = (s ≡ plus) ⊎ (s ≡ minus)
-
-pub other-side : (s : Sign) → Side s → Side (opposite s)
-unfolding opposite
-other-side s d = ⊎-elim (λ e. inr (ap opposite e)) (λ e. inl (ap opposite e)) d
-
-pub nought-side : Side nought → ⊥
-nought-side d = ⊎-elim (λ e. plus-nought (sym e)) (λ e. minus-nought (sym e)) d
 
 abbrev pub sideOf : Circuit → Sign → List ℕ
 sideOf z minus = z .minus
@@ -443,11 +432,11 @@ module _ (n m : ℕ) (w : List ℕ) (ps qs : List (List ℕ)) (v : Words m w) wh
 
 -- ---- lists with the same triples
 
-module _ (n m : ℕ) (v w : List ℕ) (p : Words m v) (q : Words m w) (b : tripleCount n ≤ wordBits * m)
+module _ (n m : ℕ) (v w : List ℕ) (p : Words m v) (q : Words m w)
     (f : (r : ℕ) → tripleCount n ≤ r → member v r ≡ false) (g : (r : ℕ) → tripleCount n ≤ r → member w r ≡ false) where
   pub extensional : ((t : List ℕ) → Listed n v t ↔ Listed n w t) → v ≡ w
   extensional h =
-      same-members m (tripleCount n) v w p q b f g .1
+      same-members m (tripleCount n) v w p q f g .1
       (λ r l. reflects-agree (reflects-iff (listed-at n v r l .1, listed-at n v r l .0) (reflects-test (member v r)))
       (reflects-iff (λ e. h (tripleAt n r) .1 (listed-at n w r l .1 e), λ e. listed-at n w r l .0 (h (tripleAt n r) .0 e)) (reflects-test (member w r))))
 

@@ -17,7 +17,7 @@ use lib.IntN.{ℤ}
 use Rattle.algebra.specs.Answer.{gives, Reflects, holds, fails}
 use Rattle.algebra.specs.Loops.{tally, sumOf, anyOf}
 use Rattle.algebra.specs.Sets.{On, sameList, union, dropped, Within, setsOf}
-use Rattle.algebra.specs.Sign.{Sign, minus, nought, plus, opposite}
+use Rattle.algebra.specs.Sign.{Sign, minus, nought, plus, opposite, Side}
 use Rattle.algebra.specs.Words.{wordBits, Words, member}
 use Rattle.algebra.proofs.AnswerLaws.{reflects-yes, reflects-true, reflects-false, reflects-iff, reflects-agree}
 use Rattle.algebra.proofs.ListLaws.{Apart, apart-append, Other, apart-map, kept, kept-in, kept-out, kept-apart}
@@ -38,12 +38,13 @@ use Rattle.lists.specs.Lines.{Listed}
 use Rattle.triples.specs.Ranks.{tripleCount, tripleAt, rankOf}
 use Rattle.triples.proofs.RankLaws.{rank-of-triple, triple-of-rank, triples-few}
 use Rattle.lists.proofs.Promises.{shots-kept}
+use Rattle.algebra.proofs.SignLaws.{nought-side}
 use Rattle.surfaces.specs.Areas.{sizeOf, areaSumOf}
 use Rattle.surfaces.specs.Flips.{supportOf, piecesOf, completions, completes, joins, exchanged, flippedOf}
 use Rattle.surfaces.specs.Lines.{Accepted, signsOf}
 use Rattle.surfaces.specs.Calls.{flipOf}
 use Rattle.algebra.proofs.UnionLaws.{set-known, on-either, on-without, union-apart, dropped-length}
-use Rattle.surfaces.proofs.Agreement.{Side, nought-side, sideOf, swapped, Proper, side-within, side-inside, support-within, on-support, piece-published}
+use Rattle.surfaces.proofs.Agreement.{sideOf, swapped, Proper, side-within, side-inside, support-within, on-support, piece-published}
 use Rattle.surfaces.proofs.Agreement.{source-at, numbered, listed-at, Joining, joins-decided, link-published, supports-published, star-published}
 use Rattle.surfaces.proofs.Promises.{flip-gives, flip-published, flip-words, put-in-new-here}
 use Rattle.surfaces.proofs.Balance.{cone-balanced}

@@ -25,11 +25,11 @@ use lib.IntN.{ℤ}
 use Rattle.algebra.specs.Answer.{Answer, gives, refuses, refusal, Line, First, Clear, Reflects, holds, fails, Decides}
 use Rattle.algebra.specs.Loops.{anyOf}
 use Rattle.algebra.specs.Sets.{isOn}
-use Rattle.algebra.specs.Sign.{Sign, minus, nought, plus, opposite}
+use Rattle.algebra.specs.Sign.{Sign, minus, nought, plus, opposite, Side}
 use Rattle.algebra.specs.Words.{wordBits, Words, member}
 use Rattle.algebra.proofs.AnswerLaws.{one-answer, chain-refuses-upon, chain-gives-upon, clear-refusal, decides-append, clear-append}
 use Rattle.algebra.proofs.AnswerLaws.{reflects-yes, reflects-true, reflects-false, reflects-stable, reflects-iff, reflects-not, reflects-or, reflects-eqb, reflects-leb}
-use Rattle.algebra.proofs.SignLaws.{plus-nought, minus-nought}
+use Rattle.algebra.proofs.SignLaws.{plus-nought, minus-nought, other-side, nought-side}
 use Rattle.algebra.proofs.WordLaws.{member-past}
 use Rattle.matroid.specs.Flips.{Supports, Flip, Flipped}
 use Rattle.matroid.proofs.FlipLaws.{not-both, put-in-new, flip-back}
@@ -56,7 +56,7 @@ use Rattle.surfaces.specs.Lines.{Accepted, signsOf, NoFlip, BadFlip, fli
 use Rattle.surfaces.specs.Calls.{readSurface, badResult, placingOf, noFlip, flipRules, flipOf}
 use Rattle.surfaces.specs.declared.Surface.{Surface}
 use Rattle.surfaces.specs.declared.Surface.the-variants as S
-use Rattle.surfaces.proofs.Agreement.{Side, other-side, nought-side, sideOf, swapped, numbered, listed-at, supports-published, star-published, star-dec}
+use Rattle.surfaces.proofs.Agreement.{sideOf, swapped, numbered, listed-at, supports-published, star-published, star-dec}
 use Rattle.surfaces.proofs.Agreement.{flip-published-side, exchanged-words, exchanged-past, one-flip}
 
 -- ---- the rules decide the lines
@@ -203,7 +203,7 @@ module _ (l : List ℤ) where
       flipped-is : (s : Sign) → Side s → (w′ : List ℕ) → Words wordCount w′ → Accepted l w′ → Flip n (Listed n w) (signsOf l z) s (Listed n w′) → flippedOf n w (circuitAt l z) ≡ w′
       flipped-is s d w′ v′ a′ f =
           flipped-side s d (f .supported)
-          ∙ one-flip n wordCount (swapped n w (circuitAt l z) s) w′ (exchanged-words n wordCount w _ _ v) v′ (let e = v .0 in let b = fits w v ok in omega arith)
+          ∙ one-flip n wordCount (swapped n w (circuitAt l z) s) w′ (exchanged-words n wordCount w _ _ v) v′
           (λ r m. exchanged-past n wordCount w _ _ v r m (none-past w v (a .0) r m)) (none-past w′ v′ (a′ .0)) (flip-published-side (numbered l z h) w s d (fits w v ok) (f .supported)) f
 
   module _ (w w′ : List ℕ) (z : ℕ) where

@@ -1,6 +1,7 @@
 -- The lines of document 01's table of refusals that this room's calls can give, as statements over the published definitions.
 --
 --   Accepted l w        the list is a triangulation of the patch: nothing past the last rank, and Theorem 2.1
+--   signsOf l z         the signs of circuit z
 --   NoFlip l w z        13: the list supports neither the plus pieces nor the minus pieces of circuit z
 --   BadFlip l w z       14: the flip of the list fails the test
 --   flipLines l w z     the table of `flip`
@@ -28,7 +29,6 @@ use Rattle.surfaces.specs.Placing.{placedOf}
 abbrev pub Accepted : List ℤ → List ℕ → Type 0
 Accepted l w = (PastLast l w → ⊥) × Triangulation (countOf l) (pointOf l) (Listed (countOf l) w)
 
--- the signs of circuit z
 abbrev pub signsOf : List ℤ → ℕ → SignVector
 signsOf l z = signIn (circuitAt l z)
 

@@ -8,7 +8,7 @@
 --   visible l w m i j     i and j are an edge of exactly one triple so far, and m lies strictly on the other side from its third shot
 --   withEdge l w m j i u  u with the triple of m and the edge i, j, where that edge of w is visible
 --   withEdges l w m j u   so for each i < j
---   placeShot l w m         the list w with m joined to every visible edge
+--   placeShot l w m       the list w with m joined to every visible edge
 --   placeNext l m w       the same for a remaining shot m; the three first shots are passed over
 --   placedOf l            every shot in increasing number
 --

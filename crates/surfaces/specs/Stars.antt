@@ -2,10 +2,10 @@
 --
 --   starOf n a x          for a side a of a circuit, both as masks: the triples that hold all of the circuit x but one shot of that side
 --   coneOf n k t          those of the set t that hold shot k
---   linkedOf n x t w      the triples with a shot k outside the circuit x for which the whole cone of k in t is in the list w, and is not empty
+--   linkedAt n x t w k    shot k is outside the circuit x, and its whole cone in t is in the list w, and is not empty
+--   linkedOf n x t w      the triples with such a shot
 --   supportedBy n x t w   the list w supports the pieces whose star is t
 --   turnedBy n x t u w    the list with the star t taken out, and what belongs to the same link in the star u put in
---   Turned, turnedOf      both, where the star t is supported, else nothing
 --
 -- That this is the flip of specs/Flips: proofs/ByStars.
 use mathlib.Core.Bool.{Bool, not, cond, _||_, _&&_}
@@ -25,7 +25,6 @@ starOf n a x = sift wordCount (λ r. ltb r (tripleCount n) && any n (λ i. bit a
 unfoldable pub coneOf : ℕ → ℕ → List ℕ → List ℕ
 coneOf n k t = bothOf t (holdersOf n k)
 
--- shot k is outside the circuit, and its cone is in the list, all of it and not empty
 unfoldable pub linkedAt : ℕ → ℕ → List ℕ → List ℕ → ℕ → Bool
 linkedAt n x t w k = not (bit x k) && (meetsOf (coneOf n k t) w && insideOf (coneOf n k t) w)
 

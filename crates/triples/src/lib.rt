@@ -5,8 +5,10 @@ pub mod rows;
 pub mod sets;
 mod tables;
 
-// A set has this many words.
+// A set has this many words, of so many bits.
 pub const WORDS: usize = 2;
+
+pub const WORD_BITS: usize = 64;
 
 // A set of triples: rank r at bit r mod 64, from the low end, of word r div 64. Only sets::word, sets::with_word and sets::none touch the words.
 pub struct Triples {

@@ -8,6 +8,7 @@ ghost use Rattle.algebra.specs.Words.{setBit, clearBit};
 ghost use Rattle.triples.specs.Sizes.{wordCount};
 ghost use Rattle.triples.specs.Sets.{wordsOf};
 use super::Triples;
+use super::WORD_BITS;
 use super::WORDS;
 
 pub fn word(list: Triples, i: usize) -> u64
@@ -68,23 +69,23 @@ pub fn has(list: Triples, r: usize) -> bool
     requires { ⌜ r < wordBits * wordCount ⌝ }
     ensures { λ b. ⌜ b ≡ member (wordsOf list) r ⌝ }
 {
-    test_bit(word(list, r / 64), r % 64)
+    test_bit(word(list, r / WORD_BITS), r % WORD_BITS)
 }
 
 pub fn with(list: Triples, r: usize) -> Triples
     requires { ⌜ r < wordBits * wordCount ⌝ }
     ensures { λ t. ⌜ wordsOf t ≡ putIn (wordsOf list) r ⌝ }
 {
-    let q = r / 64;
-    with_word(list, q, set_bit(word(list, q), r % 64))
+    let q = r / WORD_BITS;
+    with_word(list, q, set_bit(word(list, q), r % WORD_BITS))
 }
 
 pub fn without(list: Triples, r: usize) -> Triples
     requires { ⌜ r < wordBits * wordCount ⌝ }
     ensures { λ t. ⌜ wordsOf t ≡ takeOut (wordsOf list) r ⌝ }
 {
-    let q = r / 64;
-    with_word(list, q, clear_bit(word(list, q), r % 64))
+    let q = r / WORD_BITS;
+    with_word(list, q, clear_bit(word(list, q), r % WORD_BITS))
 }
 
 // ---- two sets
