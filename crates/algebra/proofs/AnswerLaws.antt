@@ -8,6 +8,7 @@
 --   chain-broken, chain-kept, chain-stop, chain-after    what a sequence of tests in the code says of its chain
 --   refusal-keeps   where the number of the first broken rule is 0, the rules are kept
 --   clear-refusal   and it is 0 exactly when no line holds
+--   first-clear, first-one    a table with a first line that holds is not clear, and its number is one
 --   decides-append, first-append, clear-append    tables joined
 --   reflects-*      tests that decide what is made of statements
 --   is-minus, is-nought, is-plus    the tests of a sign
@@ -156,6 +157,18 @@ clear-refusal (r ∷ rs) (l ∷ ls) p d = go (r .broken) (d .1) (clear-refusal r
     go : (b : Bool) → Reflects (l .when) b → (refusal rs ≡ 0) ↔ Clear ls → (cond b (r .number) (refusal rs) ≡ 0) ↔ Clear (l ∷ ls)
     go true (holds h) ih = (λ e. absurd (clash e), λ c. absurd (c .0 h))
     go false (fails h) ih = (λ e. (h, ih .0 e), λ c. ih .1 (c .1))
+
+pub first-clear : {X : Type 0} (n : ℕ) (ls : List Line) → First n ls → Clear ls → X
+first-clear n [] f c = absurd f
+first-clear n (x ∷ ls) (inl p) c = absurd (c .0 (p .0))
+first-clear n (x ∷ ls) (inr p) c = first-clear n ls (p .1) (c .1)
+
+pub first-one : (m n : ℕ) (ls : List Line) → First m ls → First n ls → m ≡ n
+first-one m n [] f g = absurd f
+first-one m n (x ∷ ls) (inl p) (inl q) = p .1 ∙ sym (q .1)
+first-one m n (x ∷ ls) (inl p) (inr q) = absurd (q .0 (p .0))
+first-one m n (x ∷ ls) (inr p) (inl q) = absurd (p .0 (q .0))
+first-one m n (x ∷ ls) (inr p) (inr q) = first-one m n ls (p .1) (q .1)
 
 -- lines joined: the first of the one list, or none there and the first of the other
 pub first-append : (n : ℕ) (ks ls : List Line) → First n (ks ++ ls) ↔ (First n ks ⊎ (Clear ks × First n ls))

@@ -1,6 +1,7 @@
 -- Tests of increasing lists as sets, how many numbers they hold, and the places of such lists among all of one length.
 --
 --   reflects-on, reflects-same, reflects-all-on    the tests `isOn`, `sameList` and `allOn` decide what they say
+--   same-places                                    the test `sameList`, place by place
 --   mem-on                                         the members of a list are the numbers that are on it
 --   isOn-picks, picks-within                       the numbers that pass a test, as a set
 --   on-low, numbers-apart                          the numbers of a list are within its bounds, and they are different
@@ -21,6 +22,7 @@ use native.Mathlib.Decide.{decLt, ℕ-discrete}
 use native.Mathlib.Nat.{not-suc-le-zero}
 use lib.Dec.{ltb, eqb}
 use lib.ListN.{length, getD}
+use lib.Seq.{ext-getD}
 use borrow.Author.Tests.{lt-ltb, le-ltb, eqb-true, eq-eqb, ne-eqb}
 use Rattle.algebra.specs.Answer.{Reflects, holds, fails}
 use Rattle.algebra.specs.Loops.{picks, every}
@@ -159,6 +161,13 @@ reflects-same (i ∷ s) [] = fails (λ e. clash (ap length e))
     clash : suc (length s) ≡ 0 → ⊥
     clash e = omega arith
 reflects-same (i ∷ s) (j ∷ t) = reflects-iff (λ p k. p .0 k ∷ p .1 k, λ e. (cc, cc)) (reflects-and (reflects-eqb i j) (reflects-same s t))
+
+pub same-places : (k : ℕ) (s t : List ℕ) → length s ≡ k → length t ≡ k → every k (λ i. eqb (getD s i 0) (getD t i 0)) ≡ sameList s t
+same-places k s t m n =
+    reflects-agree
+    (reflects-iff (λ f. ext-getD 0 s t (m ∙ sym n) (λ i h. f i (omega arith)), λ e i h. ap (λ (u : List ℕ). getD u i 0) e)
+    (reflects-every (λ i. getD s i 0 ≡ getD t i 0) (λ i. eqb (getD s i 0) (getD t i 0)) k (λ i h. reflects-eqb (getD s i 0) (getD t i 0))))
+    (reflects-same s t)
 
 pub reflects-all-on : (s t : List ℕ) → Reflects ((i : ℕ) → On s i → On t i) (allOn s t)
 unfolding allOn

@@ -10,7 +10,7 @@
 --   around-meets                a triple of the list holds a side
 --   by-around, by-crossing      the sides of one circuit are inside triples of the list; those of some circuit
 --   by-open                     an edge of exactly one triple that is no border pair
---   crossedBy, openBy           the two tests as the code's loops make them, over the arrays of specs/Held
+--   crossedBy, openBy           the two tests as the code's loops make them, over the table of specs/Held
 --   refusal-7, refusal-10, refusal-8, refusal-9, refusal-0    the number of the list, test by test
 --   accepted-solid              an accepted list has nothing past the last rank and no flat triple
 use mathlib.Core.Path.{_≡_, refl, sym, _∙_, ap}
@@ -44,7 +44,7 @@ use Rattle.triples.specs.Sizes.{wordCount}
 use Rattle.triples.specs.Ranks.{tripleCount, tripleAt}
 use Rattle.lists.specs.Tests.{isFlat, pastLast, someFlat, isEmpty, sidesIn, crosses, crossing, shared, openAt, openEdge, listRefusalOf}
 use Rattle.triples.specs.Sets.{fullOf, holdersOf, maskOn, aroundOf}
-use Rattle.lists.specs.Held.{solidOf, innerOf, innerRow, AroundPlus, AroundMinus, Inner}
+use Rattle.lists.specs.Held.{solidOf, innerOf, plusRow, minusRow, innerRow, AroundPlus, AroundMinus, Inner}
 use Rattle.triples.proofs.RankLaws.{triple-past, triples-few, past-off}
 
 -- ---- small laws
@@ -98,9 +98,9 @@ mask-around n s t w = mask-on n s t w
 
 -- ---- the tests
 
--- as the code's loops go through the arrays
-abbrev pub crossedBy : List ℕ → List ℕ → List ℕ → ℕ → Bool
-crossedBy w p m count = any count (λ z. meetsOf w (rowOf wordCount p z) && meetsOf w (rowOf wordCount m z))
+-- as the code's loops go through the table
+abbrev pub crossedBy : List ℕ → List ℕ → ℕ → Bool
+crossedBy w t count = any count (λ z. meetsOf w (rowOf wordCount t (plusRow z)) && meetsOf w (rowOf wordCount t (minusRow z)))
 
 abbrev pub openBy : ℕ → List ℕ → List ℕ → Bool
 openBy n w t = any n (λ j. any j (λ i. aloneOf (bothOf w (rowOf wordCount t (innerRow i j)))))
@@ -200,12 +200,11 @@ module _ (l : List ℤ) (w : List ℕ) (few : countOf l ≤ shotsMost) (v : Word
           (λ r u. reflects-and (reflects-test (member w r))
           (reflects-any (λ s. (member w s ≡ true) × P r s) (λ s. member w s && f r s) last (λ s u′. reflects-and (reflects-test (member w s)) (h r s)))))
 
-  pub by-crossing : (p m : List ℕ) (count : ℕ) → AroundPlus l p → AroundMinus l m → count ≡ length (circuitsOf l)
-      → crossedBy w p m count ≡ crossing l w
+  pub by-crossing : (t : List ℕ) (count : ℕ) → AroundPlus l t → AroundMinus l t → count ≡ length (circuitsOf l) → crossedBy w t count ≡ crossing l w
   unfolding crossing
-  by-crossing p m count f g e =
-      ap (λ (k : ℕ). any k (λ z. meetsOf w (rowOf wordCount p z) && meetsOf w (rowOf wordCount m z))) e
-      ∙ any-same (λ z. meetsOf w (rowOf wordCount p z) && meetsOf w (rowOf wordCount m z)) (λ z. crosses n w (circuitAt l z)) (length (circuitsOf l))
+  by-crossing t count f g e =
+      ap (crossedBy w t) e
+      ∙ any-same (λ z. meetsOf w (rowOf wordCount t (plusRow z)) && meetsOf w (rowOf wordCount t (minusRow z))) (λ z. crosses n w (circuitAt l z)) (length (circuitsOf l))
       (λ z h. (λ k. meetsOf w (f z h k) && meetsOf w (g z h k)) ∙ (let s = sides z h in by-around (circuitAt l z) (s .0) (s .1)))
     where
       sides : (z : ℕ) → z < length (circuitsOf l) → Within 0 (circuitAt l z .plus) n × Within 0 (circuitAt l z .minus) n
@@ -319,18 +318,18 @@ module _ (l : List ℤ) (w : List ℕ) (few : countOf l ≤ shotsMost) (v : Word
     unfolding listRefusalOf refusal
     refusal-10 h = rw (kept e, sym (by-empty no-past) ∙ h) refl
 
-    module _ (p m : List ℕ) (count : ℕ) (f : AroundPlus l p) (g : AroundMinus l m) (c : count ≡ length (circuitsOf l)) (some : emptyOf w ≡ false) where
-      pub refusal-8 : crossedBy w p m count ≡ true → 8 ≡ listRefusalOf l w
+    module _ (t : List ℕ) (count : ℕ) (f : AroundPlus l t) (g : AroundMinus l t) (c : count ≡ length (circuitsOf l)) (some : emptyOf w ≡ false) where
+      pub refusal-8 : crossedBy w t count ≡ true → 8 ≡ listRefusalOf l w
       unfolding listRefusalOf refusal
-      refusal-8 h = rw (kept e, sym (by-empty no-past) ∙ some, sym (by-crossing p m count f g c) ∙ h) refl
+      refusal-8 h = rw (kept e, sym (by-empty no-past) ∙ some, sym (by-crossing t count f g c) ∙ h) refl
 
-      pub refusal-9 : (t : List ℕ) → Inner l t → crossedBy w p m count ≡ false → openBy (countOf l) w t ≡ true → 9 ≡ listRefusalOf l w
+      pub refusal-9 : Inner l t → crossedBy w t count ≡ false → openBy (countOf l) w t ≡ true → 9 ≡ listRefusalOf l w
       unfolding listRefusalOf refusal
-      refusal-9 t u h k = rw (kept e, sym (by-empty no-past) ∙ some, sym (by-crossing p m count f g c) ∙ h, sym (by-open t u) ∙ k) refl
+      refusal-9 u h k = rw (kept e, sym (by-empty no-past) ∙ some, sym (by-crossing t count f g c) ∙ h, sym (by-open t u) ∙ k) refl
 
-      pub refusal-0 : (t : List ℕ) → Inner l t → crossedBy w p m count ≡ false → openBy (countOf l) w t ≡ false → 0 ≡ listRefusalOf l w
+      pub refusal-0 : Inner l t → crossedBy w t count ≡ false → openBy (countOf l) w t ≡ false → 0 ≡ listRefusalOf l w
       unfolding listRefusalOf refusal
-      refusal-0 t u h k = rw (kept e, sym (by-empty no-past) ∙ some, sym (by-crossing p m count f g c) ∙ h, sym (by-open t u) ∙ k) refl
+      refusal-0 u h k = rw (kept e, sym (by-empty no-past) ∙ some, sym (by-crossing t count f g c) ∙ h, sym (by-open t u) ∙ k) refl
 
 pub accepted-solid : (l : List ℤ) (w : List ℕ) → listRefusalOf l w ≡ 0 → (pastLast l w ≡ false) × (someFlat l w ≡ false)
 unfolding listRefusalOf

@@ -8,8 +8,9 @@ ghost use Rattle.shots.specs.Sizes.{shotsMost};
 ghost use Rattle.shots.specs.Patch.{countOf};
 ghost use Rattle.shots.specs.Tests.{Near};
 ghost use Rattle.triples.specs.Sizes.{wordCount};
-ghost use Rattle.triples.specs.Sets.{wordsOf, Holding};
-ghost use Rattle.lists.specs.Held.{innerOf, innerRow, Inner, InnerWith};
+ghost use Rattle.triples.specs.Sets.{wordsOf, SameBelow, Written, Holding};
+ghost use Rattle.lists.specs.Held.{heldRows, innerFirst, innerFrom, innerOf, innerRow, Inner};
+use super::INNER_FIRST;
 use shots::SHOTS_MOST;
 use triples::Triples;
 use triples::rows;
@@ -27,38 +28,39 @@ fn inner(shots: &[i32], held: &[u64], i: usize, j: usize) -> Triples
 }
 
 // The rows of the pairs with j as the larger shot.
-fn fill_with(shots: &[i32], held: &[u64], j: usize, out: &mut [u64])
-    requires { ⌜ (j < countOf (now shots)) × Near (now shots) × (countOf (now shots) ≤ shotsMost) × (wordCount * countOf (now shots) ≤ length (now held)) × Holding (countOf (now shots)) (now held) × (wordCount * shotsMost * shotsMost ≤ length (now out)) ⌝ }
-    ensures { λ r. ⌜ InnerWith (now (shots .entry)) j j (now (out .entry)) (now (out .exit)) ⌝ }
+fn fill_with(shots: &[i32], j: usize, held: &mut [u64])
+    requires { ⌜ (j < countOf (now shots)) × Near (now shots) × (countOf (now shots) ≤ shotsMost) × (wordCount * heldRows ≤ length (now held)) × Holding (countOf (now shots)) (now held) ⌝ }
+    ensures { λ r. ⌜ Written (innerFrom j) j (λ i. innerOf (now (shots .entry)) i j) (now (held .entry)) (now (held .exit)) ⌝ }
 {
     let mut i = 0;
     while i < j {
-        rows::put_row(out, SHOTS_MOST * j + i, inner(shots, held, i, j));
+        let inner = inner(shots, held, i, j);
+        rows::put_row(held, INNER_FIRST + SHOTS_MOST * j + i, inner);
         i += 1;
     }
 }
 
-// The rows of all pairs.
-pub fn fill(shots: &[i32], held: &[u64], out: &mut [u64])
-    requires { ⌜ Near (now shots) × (countOf (now shots) ≤ shotsMost) × (wordCount * countOf (now shots) ≤ length (now held)) × Holding (countOf (now shots)) (now held) × (wordCount * shotsMost * shotsMost ≤ length (now out)) ⌝ }
-    ensures { λ r. ⌜ (length (now (out .exit)) ≡ length (now (out .entry))) × Inner (now (shots .entry)) (now (out .exit)) ⌝ }
+// The rows of all pairs; those before stay.
+pub fn fill(shots: &[i32], held: &mut [u64])
+    requires { ⌜ Near (now shots) × (countOf (now shots) ≤ shotsMost) × (wordCount * heldRows ≤ length (now held)) × Holding (countOf (now shots)) (now held) ⌝ }
+    ensures { λ r. ⌜ (length (now (held .exit)) ≡ length (now (held .entry))) × Inner (now (shots .entry)) (now (held .exit)) × SameBelow innerFirst (now (held .entry)) (now (held .exit)) ⌝ }
 {
     let n = shots.len() / 2;
     let mut j = 0;
     while j < n {
-        fill_with(shots, held, j, out);
+        fill_with(shots, j, held);
         j += 1;
     }
 }
 
 // Whether an edge to j from a smaller shot is open: exactly one triple of the list is among its inner triples.
-fn open_with(inner: &[u64], j: usize, list: Triples) -> bool
-    requires { ⌜ (j < shotsMost) × (wordCount * shotsMost * shotsMost ≤ length (now inner)) ⌝ }
-    ensures { λ r. ⌜ r ≡ any j (λ i. aloneOf (bothOf (wordsOf list) (rowOf wordCount (now (inner .entry)) (innerRow i j)))) ⌝ }
+fn open_with(held: &[u64], j: usize, list: Triples) -> bool
+    requires { ⌜ (j < shotsMost) × (wordCount * heldRows ≤ length (now held)) ⌝ }
+    ensures { λ r. ⌜ r ≡ any j (λ i. aloneOf (bothOf (wordsOf list) (rowOf wordCount (now (held .entry)) (innerRow i j)))) ⌝ }
 {
     let mut i = 0;
     while i < j {
-        if sets::alone(sets::both(list, rows::row_at(inner, SHOTS_MOST * j + i))) {
+        if sets::alone(sets::both(list, rows::row_at(held, INNER_FIRST + SHOTS_MOST * j + i))) {
             return true;
         }
         i += 1;
@@ -67,13 +69,13 @@ fn open_with(inner: &[u64], j: usize, list: Triples) -> bool
 }
 
 // Whether an edge of the list is open.
-pub fn open(inner: &[u64], n: usize, list: Triples) -> bool
-    requires { ⌜ (n ≤ shotsMost) × (wordCount * shotsMost * shotsMost ≤ length (now inner)) ⌝ }
-    ensures { λ r. ⌜ r ≡ any n (λ j. any j (λ i. aloneOf (bothOf (wordsOf list) (rowOf wordCount (now (inner .entry)) (innerRow i j))))) ⌝ }
+pub fn open(held: &[u64], n: usize, list: Triples) -> bool
+    requires { ⌜ (n ≤ shotsMost) × (wordCount * heldRows ≤ length (now held)) ⌝ }
+    ensures { λ r. ⌜ r ≡ any n (λ j. any j (λ i. aloneOf (bothOf (wordsOf list) (rowOf wordCount (now (held .entry)) (innerRow i j))))) ⌝ }
 {
     let mut j = 0;
     while j < n {
-        if open_with(inner, j, list) {
+        if open_with(held, j, list) {
             return true;
         }
         j += 1;

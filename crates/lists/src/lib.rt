@@ -14,12 +14,19 @@ use triples::WORDS;
 pub mod core;
 pub mod edges;
 
-// The words of the arrays that a test works out: a row for each shot, for each circuit, for each pair.
-pub const HELD_WORDS: usize = WORDS * SHOTS_MOST;
+// What a test reads is worked out once, into one table of sets of triples. Its rows: those that hold shot k, from row 0 on; around the plus side of circuit z; around the minus side;
+// the inner triples of each pair; and one row for the triples that are not flat.
+pub const PLUS_FIRST: usize = SHOTS_MOST;
 
-pub const AROUND_WORDS: usize = WORDS * CIRCUITS_MOST;
+pub const MINUS_FIRST: usize = PLUS_FIRST + CIRCUITS_MOST;
 
-pub const INNER_WORDS: usize = WORDS * SHOTS_MOST * SHOTS_MOST;
+pub const INNER_FIRST: usize = MINUS_FIRST + CIRCUITS_MOST;
+
+pub const SOLID_ROW: usize = INNER_FIRST + SHOTS_MOST * SHOTS_MOST;
+
+pub const HELD_ROWS: usize = SOLID_ROW + 1;
+
+pub const HELD_WORDS: usize = WORDS * HELD_ROWS;
 
 pub enum Tested {
     Accepted,
@@ -33,23 +40,11 @@ pub fn test(shots: &[i32], list: Triples) -> Tested
     if refusal != 0 {
         return Tested::Refused(refusal);
     }
-    let mut held = [0u64; HELD_WORDS];
     let mut plus = [0u16; CIRCUITS_MOST];
     let mut minus = [0u16; CIRCUITS_MOST];
-    let mut pluses = [0u64; AROUND_WORDS];
-    let mut minuses = [0u64; AROUND_WORDS];
-    let mut inner = [0u64; INNER_WORDS];
-    let count = core::prepare(
-        shots,
-        &mut held,
-        &mut plus,
-        &mut minus,
-        &mut pluses,
-        &mut minuses,
-        &mut inner,
-    );
-    let solid = core::solid(shots);
-    let number = core::refusal(shots, solid, &pluses, &minuses, count, &inner, list);
+    let mut held = [0u64; HELD_WORDS];
+    let count = core::prepare(shots, &mut plus, &mut minus, &mut held);
+    let number = core::refusal(shots, &held, count, list);
     if number != 0 {
         return Tested::Refused(number);
     }

@@ -416,10 +416,10 @@ module _ {n : ℕ} {z : Circuit} (k : Proper n z) (w : List ℕ) where
 
 -- ---- what is in the exchanged list, whatever the pieces
 
-module _ (n m : ℕ) (w : List ℕ) (ps qs : List (List ℕ)) (v : Words m w) where
+module _ (n m : ℕ) (w : List ℕ) (ps qs : List (List ℕ)) (v : length w ≡ m) where
   pub exchanged-words : Words m (exchanged n w ps qs)
   unfolding exchanged
-  exchanged-words = subst (λ (x : ℕ). Words x (exchanged n w ps qs)) (v .0) (sift-words (length w) (λ r. (member w r && not (joins n w ps ps r)) || joins n w ps qs r))
+  exchanged-words = subst (λ (x : ℕ). Words x (exchanged n w ps qs)) v (sift-words (length w) (λ r. (member w r && not (joins n w ps ps r)) || joins n w ps qs r))
 
   -- nothing is put in past the last rank
   pub exchanged-past : (r : ℕ) → tripleCount n ≤ r → member w r ≡ false → member (exchanged n w ps qs) r ≡ false
@@ -428,7 +428,7 @@ module _ (n m : ℕ) (w : List ℕ) (ps qs : List (List ℕ)) (v : Words m w) wh
     where
       go : Dec (r < wordBits * length w) → member (exchanged n w ps qs) r ≡ false
       go (yes l) = member-sift (length w) (λ r. (member w r && not (joins n w ps ps r)) || joins n w ps qs r) r l ∙ rw (e, le-ltb r (tripleCount n) h) refl
-      go (no l) = member-past m (exchanged n w ps qs) r exchanged-words (let f = v .0 in omega arith)
+      go (no l) = member-past m (exchanged n w ps qs) r exchanged-words (omega arith)
 
 -- ---- lists with the same triples
 

@@ -5,7 +5,7 @@
 --
 -- Source: document 01, "Flips", "The square with its centre".
 use mathlib.Core.Path.{_≡_, refl, sym, _∙_, ap, subst}
-use mathlib.Core.Logic.{_⊎_, inl, inr, ⊎-elim}
+use mathlib.Core.Logic.{inl, inr, ⊎-elim}
 use mathlib.Core.Bool.{Bool, true, false, cond, not, _||_, _&&_, true≢false, false≢true}
 use mathlib.Core.List.{List, [], _∷_, _++_, map, List·Memᴰ, List·Memᴰ·head, List·Memᴰ·tail, List·Memᴰ·cases-cons, List·Memᴰ·not-nil, List·Memᴰ·append-cases}
 use mathlib.Core.List.{Memᴰ·append-left, Memᴰ·append-right, Memᴰ·cast, Memᴰ·map, Memᴰ·of-map}
@@ -325,7 +325,7 @@ module _ (l : List ℤ) where
 pub flip-keeps-area : (l : List ℤ) (w w′ : List ℕ) (z : ℕ) → Words wordCount w → flipOf l w z ≡ gives w′ → areaSumOf l w′ ≡ areaSumOf l w
 unfolding flippedOf opposite
 flip-keeps-area l w w′ z v e =
-    let (c, a, h, f, a′) = flip-published l w w′ z v (flip-words l w w′ z v e) .0 e in
+    let (c, a, h, f, a′) = flip-published l w w′ z v (flip-words l w w′ z (v .0) e) .0 e in
     ap (areaSumOf l) (sym (flip-gives l w z w′ .0 e .1)) ∙ go (shots-kept l c) a h f (supports-published (numbered l z h) w plus (inl refl))
   where
     go : {b : Bool} → refusalOf l ≡ 0 → Accepted l w → z < length (circuitsOf l) → Flipped (countOf l) (Listed (countOf l) w) (signsOf l z) (Listed (countOf l) w′)

@@ -140,7 +140,7 @@ module _ (l : List ℤ) where
 
 -- ---- the published flip
 
-flipped-words : (n m : ℕ) (w : List ℕ) (x : Circuit) → Words m w → Words m (flippedOf n w x)
+flipped-words : (n m : ℕ) (w : List ℕ) (x : Circuit) → length w ≡ m → Words m (flippedOf n w x)
 unfolding flippedOf
 flipped-words n m w x v = go (supports n w (piecesOf n x (x .plus)))
   where
@@ -203,8 +203,8 @@ module _ (l : List ℤ) where
       flipped-is : (s : Sign) → Side s → (w′ : List ℕ) → Words wordCount w′ → Accepted l w′ → Flip n (Listed n w) (signsOf l z) s (Listed n w′) → flippedOf n w (circuitAt l z) ≡ w′
       flipped-is s d w′ v′ a′ f =
           flipped-side s d (f .supported)
-          ∙ one-flip n wordCount (swapped n w (circuitAt l z) s) w′ (exchanged-words n wordCount w _ _ v) v′
-          (λ r m. exchanged-past n wordCount w _ _ v r m (none-past w v (a .0) r m)) (none-past w′ v′ (a′ .0)) (flip-published-side (numbered l z h) w s d (fits w v ok) (f .supported)) f
+          ∙ one-flip n wordCount (swapped n w (circuitAt l z) s) w′ (exchanged-words n wordCount w _ _ (v .0)) v′
+          (λ r m. exchanged-past n wordCount w _ _ (v .0) r m (none-past w v (a .0) r m)) (none-past w′ v′ (a′ .0)) (flip-published-side (numbered l z h) w s d (fits w v ok) (f .supported)) f
 
   module _ (w w′ : List ℕ) (z : ℕ) where
     -- the published flip leads from an accepted list to an accepted one
@@ -238,13 +238,13 @@ module _ (l : List ℤ) where
             is : flippedOf n w (circuitAt l z) ≡ w′
             is = ⊎-elim (λ g. flipped-is (shots-kept l c) w a z h v plus (inl refl) w′ v′ a′ g) (λ g. flipped-is (shots-kept l c) w a z h v minus (inr refl) w′ v′ a′ g) f
 
-  pub flip-words : (w w′ : List ℕ) (z : ℕ) → Words wordCount w → flipOf l w z ≡ gives w′ → Words wordCount w′
+  pub flip-words : (w w′ : List ℕ) (z : ℕ) → length w ≡ wordCount → flipOf l w z ≡ gives w′ → Words wordCount w′
   flip-words w w′ z v e = subst (Words wordCount) (flip-gives l w z w′ .0 e .1) (flipped-words n wordCount w (circuitAt l z) v)
 
   pub flip-back-again : (w w′ : List ℕ) (z : ℕ) → Words wordCount w → flipOf l w z ≡ gives w′ → flipOf l w′ z ≡ gives w
   unfolding opposite
   flip-back-again w w′ z v e =
-      let v′ : Words wordCount w′ = flip-words w w′ z v e in
+      let v′ : Words wordCount w′ = flip-words w w′ z (v .0) e in
       let (c, a, h, f, a′) = flip-published w w′ z v v′ .0 e in
       let back : (s : Sign) → Side s → Flip n (Listed n w) (signsOf l z) s (Listed n w′) → Flip n (Listed n w′) (signsOf l z) (opposite s) (Listed n w)
       = λ s d. flip-back (a .1) (a′ .1) (circuit-published l (shots-kept l c) z h) d (star-dec (numbered l z h) w s s d d) in

@@ -7,6 +7,8 @@
 ghost use mathlib.Core.Path.{_≡_};
 ghost use Rattle.triples.specs.Sets.{wordsOf};
 ghost use Rattle.surfaces.specs.Calls.{readSurface, placingOf, flipOf};
+use circuits::CIRCUITS_MOST;
+use lists::HELD_WORDS;
 use lists::core;
 use triples::Triples;
 
@@ -25,24 +27,12 @@ pub fn placing(shots: &[i32]) -> Surface
     if refusal != 0 {
         return Surface::Refused(refusal);
     }
-    let mut held = [0u64; lists::HELD_WORDS];
-    let mut plus = [0u16; circuits::CIRCUITS_MOST];
-    let mut minus = [0u16; circuits::CIRCUITS_MOST];
-    let mut pluses = [0u64; lists::AROUND_WORDS];
-    let mut minuses = [0u64; lists::AROUND_WORDS];
-    let mut inner = [0u64; lists::INNER_WORDS];
-    let count = core::prepare(
-        shots,
-        &mut held,
-        &mut plus,
-        &mut minus,
-        &mut pluses,
-        &mut minuses,
-        &mut inner,
-    );
-    let solid = core::solid(shots);
+    let mut plus = [0u16; CIRCUITS_MOST];
+    let mut minus = [0u16; CIRCUITS_MOST];
+    let mut held = [0u64; HELD_WORDS];
+    let count = core::prepare(shots, &mut plus, &mut minus, &mut held);
     let list = placed::all(shots, &held);
-    if core::refusal(shots, solid, &pluses, &minuses, count, &inner, list) != 0 {
+    if core::refusal(shots, &held, count, list) != 0 {
         return Surface::Refused(14);
     }
     Surface::List(list)
@@ -55,23 +45,11 @@ pub fn flip(shots: &[i32], list: Triples, z: usize) -> Surface
     if refusal != 0 {
         return Surface::Refused(refusal);
     }
-    let mut held = [0u64; lists::HELD_WORDS];
-    let mut plus = [0u16; circuits::CIRCUITS_MOST];
-    let mut minus = [0u16; circuits::CIRCUITS_MOST];
-    let mut pluses = [0u64; lists::AROUND_WORDS];
-    let mut minuses = [0u64; lists::AROUND_WORDS];
-    let mut inner = [0u64; lists::INNER_WORDS];
-    let count = core::prepare(
-        shots,
-        &mut held,
-        &mut plus,
-        &mut minus,
-        &mut pluses,
-        &mut minuses,
-        &mut inner,
-    );
-    let solid = core::solid(shots);
-    let number = core::refusal(shots, solid, &pluses, &minuses, count, &inner, list);
+    let mut plus = [0u16; CIRCUITS_MOST];
+    let mut minus = [0u16; CIRCUITS_MOST];
+    let mut held = [0u64; HELD_WORDS];
+    let count = core::prepare(shots, &mut plus, &mut minus, &mut held);
+    let number = core::refusal(shots, &held, count, list);
     if number != 0 {
         return Surface::Refused(number);
     }
@@ -83,7 +61,7 @@ pub fn flip(shots: &[i32], list: Triples, z: usize) -> Surface
         return Surface::Refused(13);
     }
     let next = turned.list;
-    if core::refusal(shots, solid, &pluses, &minuses, count, &inner, next) != 0 {
+    if core::refusal(shots, &held, count, next) != 0 {
         return Surface::Refused(14);
     }
     Surface::List(next)

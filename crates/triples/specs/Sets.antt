@@ -6,12 +6,15 @@
 --   maskOn n x s        every shot of the mask x is in s
 --   aroundOf n x w      those of w that hold every shot of the mask x
 --   Rows t k f          row p of the table t holds f p, for each p below k
+--   SameBelow a t u     the rows below a are the same in both tables
+--   Written a k f t u   u is t with f p written to row a + p, for each p below k; the rows below a stay
 --   Holding n t         row k holds the holders of shot k
 use mathlib.Core.Path.{_≡_}
 use mathlib.Core.Bool.{Bool, not, _||_, _&&_}
 use mathlib.Core.List.{List, [], _∷_}
-use Prim.Native.Nat.{ℕ, _<_}
+use Prim.Native.Nat.{ℕ, _+_, _<_}
 use lib.Dec.{ltb}
+use lib.ListN.{length}
 use Rattle.algebra.specs.Loops.{every}
 use Rattle.algebra.specs.Sets.{isOn, bit}
 use Rattle.algebra.specs.Words.{member, sift, rowOf}
@@ -36,6 +39,14 @@ aroundOf n x w = sift wordCount (λ r. member w r && maskOn n x (tripleAt n r))
 
 abbrev pub Rows : List ℕ → ℕ → (ℕ → List ℕ) → Type 0
 Rows t k f = (p : ℕ) → p < k → rowOf wordCount t p ≡ f p
+
+abbrev pub SameBelow : ℕ → List ℕ → List ℕ → Type 0
+SameBelow a t u = (p : ℕ) → p < a → rowOf wordCount u p ≡ rowOf wordCount t p
+
+pub record Written (a k : ℕ) (f : ℕ → List ℕ) (before after : List ℕ) : Type 0 where
+  pub lengths : length after ≡ length before
+  pub here : (p : ℕ) → p < k → rowOf wordCount after (a + p) ≡ f p
+  pub there : SameBelow a before after
 
 abbrev pub Holding : ℕ → List ℕ → Type 0
 Holding n t = Rows t n (holdersOf n)

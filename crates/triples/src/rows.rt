@@ -2,6 +2,7 @@
 ghost use mathlib.Core.Path.{_≡_};
 ghost use Prim.Native.Nat.{_+_, _*_, _≤_};
 ghost use lib.ListN.{length};
+ghost use Rattle.algebra.specs.Sets.{sameList};
 ghost use Rattle.algebra.specs.Words.{rowOf, setRow};
 ghost use Rattle.triples.specs.Sizes.{wordCount};
 ghost use Rattle.triples.specs.Sets.{wordsOf};
@@ -31,4 +32,19 @@ pub fn put_row(table: &mut [u64], p: usize, list: Triples)
         table[WORDS * p + i] = sets::word(list, i);
         i += 1;
     }
+}
+
+// Whether row p is the list.
+pub fn is_row(table: &[u64], p: usize, list: Triples) -> bool
+    requires { ⌜ wordCount * p + wordCount ≤ length (now table) ⌝ }
+    ensures { λ r. ⌜ r ≡ sameList (rowOf wordCount (now (table .entry)) p) (wordsOf list) ⌝ }
+{
+    let mut i = 0;
+    while i < WORDS {
+        if table[WORDS * p + i] != sets::word(list, i) {
+            return false;
+        }
+        i += 1;
+    }
+    true
 }

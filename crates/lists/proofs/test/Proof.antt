@@ -22,38 +22,28 @@ unfolding testOf
 returns c = let a = c .before .before .args in shots-refused (a .shots .now) (listRules (a .shots .now) (wordsOf (a .list))) tt (c .before .refusal .ensures) (c .if1 .taken)
 
 -- the places of the calls before
-abbrev accepted : tie.After-inner → tie.Else1
-accepted i = i .before .before .before .before .before .before
+abbrev accepted : tie.After-held → tie.Else1
+accepted h = h .before .before .before
 
-abbrev prepared : tie.After-solid → tie.After-prepare
-prepared s = s .before .before .before .before .before .before .before
-
-abbrev solids : tie.After-refusal2 → tie.After-solid
-solids n = n .before .before .before .before
+abbrev prepared : tie.After-refusal2 → tie.After-prepare
+prepared n = n .before .before .before .before .before
 
 patch : (d : tie.Else1) → let l = d .before .before .args .shots .now in Near l × (countOf l ≤ shotsMost)
 patch d = let l = d .before .before .args .shots .now in let e : refusalOf l ≡ 0 = sym (d .before .refusal .ensures) ∙ d .if1 .left in (patch-near l e, patch-few l e .1)
 
 prepare-requires : tie.Need-prepare-requires
-prepare-requires c κs = let h = patch (accepted c) in (h .0, h .1, omega arith, omega arith, omega arith, omega arith, omega arith, omega arith)
-
-solid-requires : tie.Need-solid-requires
-solid-requires c κs = patch (accepted (c .before .before .before .before .before .before .before))
+prepare-requires c κs = let h = patch (accepted c) in (h .0, h .1, omega arith, omega arith, omega arith)
 
 refusal-requires-2 : tie.Need-refusal-requires-2
 refusal-requires-2 c κs =
-    let s = c .before .before .before in
-    let p = prepared s in
-    let h = patch (accepted (p .before)) in
-    let q = p .prepare .ensures .1 in
-    let k = p .prepare .kept .1 .1 .1 .1 in
-    (h .1, s .solid .ensures, p .prepare .ensures .0, omega (arith, k .0), omega (arith, k .1 .0), omega (arith, k .1 .1 .0), q .over-plus, q .over-minus, q .edges)
+    let p = c .before .before .before .before in
+    (patch (accepted (p .before)) .1, p .prepare .ensures .0, omega (arith, p .prepare .kept .1 .1 .1 .0), p .prepare .ensures .2)
 
 returns-2 : tie.Need-returns-2
 unfolding testOf
 returns-2 c =
     let n = c .before in
-    let d = accepted (prepared (solids n) .before) in
+    let d = accepted (prepared n .before) in
     let a = d .before .before .args in
     let w = wordsOf (a .list) in
     list-refused (a .shots .now) w [] tt (n .refusal2 .ensures) (c .if2 .taken) ∙ shots-passed (a .shots .now) (listRules (a .shots .now) w) tt (d .before .refusal .ensures) (d .if1 .left)
@@ -62,7 +52,7 @@ returns-3 : tie.Need-returns-3
 unfolding testOf chain
 returns-3 c =
     let n = c .before in
-    let d = accepted (prepared (solids n) .before) in
+    let d = accepted (prepared n .before) in
     let a = d .before .before .args in
     let w = wordsOf (a .list) in
     list-passed (a .shots .now) w [] tt (n .refusal2 .ensures) (c .if2 .left) ∙ shots-passed (a .shots .now) (listRules (a .shots .now) w) tt (d .before .refusal .ensures) (d .if1 .left)
@@ -76,13 +66,7 @@ test-spec =
     (λ c. search needs)
     (λ c. search needs)
     (λ c. search needs)
-    (λ c. search needs)
-    (λ c. search needs)
-    (λ c. search needs)
     prepare-requires
-    solid-requires
-    (λ c. search needs)
-    (λ c. search needs)
     (λ c. search needs)
     refusal-requires-2
     returns-2

@@ -33,14 +33,11 @@ returns : tie.Need-returns
 returns c = let a = c .before .before .args in flip-stops (a .shots .now) (wordsOf (a .list)) (a .z) (c .before .refusal .ensures) (c .if1 .taken)
 
 -- the places of the calls before
-abbrev accepted : tie.After-inner → tie.Else1
-accepted i = i .before .before .before .before .before .before
+abbrev accepted : tie.After-held → tie.Else1
+accepted h = h .before .before .before
 
-abbrev prepared : tie.After-solid → tie.After-prepare
-prepared s = s .before .before .before .before .before .before .before
-
-abbrev solids : tie.After-refusal2 → tie.After-solid
-solids n = n .before .before .before .before
+abbrev prepared : tie.After-refusal2 → tie.After-prepare
+prepared n = n .before .before .before .before .before
 
 right : (d : tie.Else1) → refusalOf (d .before .before .args .shots .now) ≡ 0
 right d = sym (d .before .refusal .ensures) ∙ d .if1 .left
@@ -49,28 +46,19 @@ prepare-requires : tie.Need-prepare-requires
 prepare-requires c κs =
     let d = accepted c in
     let l = d .before .before .args .shots .now in
-    (patch-near l (right d), patch-few l (right d) .1, omega arith, omega arith, omega arith, omega arith, omega arith, omega arith)
-
-solid-requires : tie.Need-solid-requires
-solid-requires c κs =
-    let d = accepted (c .before .before .before .before .before .before .before) in
-    let l = d .before .before .args .shots .now in
-    (patch-near l (right d), patch-few l (right d) .1)
+    (patch-near l (right d), patch-few l (right d) .1, omega arith, omega arith, omega arith)
 
 refusal-requires-2 : tie.Need-refusal-requires-2
 refusal-requires-2 c κs =
-    let s = c .before .before .before in
-    let p = prepared s in
+    let p = c .before .before .before .before in
     let d = accepted (p .before) in
     let l = d .before .before .args .shots .now in
-    let q = p .prepare .ensures .1 in
-    let k = p .prepare .kept .1 .1 .1 .1 in
-    (patch-few l (right d) .1, s .solid .ensures, p .prepare .ensures .0, omega (arith, k .0), omega (arith, k .1 .0), omega (arith, k .1 .1 .0), q .over-plus, q .over-minus, q .edges)
+    (patch-few l (right d) .1, p .prepare .ensures .0, omega (arith, p .prepare .kept .1 .1 .1 .0), p .prepare .ensures .2)
 
 -- what is known once the list was tested
 module _ (n : tie.After-refusal2) where
   abbrev done : tie.After-prepare
-  done = prepared (solids n)
+  done = prepared n
 
   abbrev run : tie.Else1
   run = accepted (done .before)
@@ -121,9 +109,9 @@ along-requires : tie.Need-along-requires
 along-requires c κs =
     let d = c .before in
     let n = d .before .before in
-    let q = done n .prepare .ensures .1 in
+    let q = done n .prepare .ensures in
     let t = patch-few (l n) (right (run n)) .1 in
-    (t, omega (arith, t, done n .prepare .kept .1 .0), q .holding, sum-low (l n) t (z n) (low d) _ _ (q .sides (z n) (low d)))
+    (t, omega (arith, t, done n .prepare .kept .1 .1 .1 .0), q .2 .holding, sum-low (l n) t (z n) (low d) _ _ (q .1 (z n) (low d)))
 
 words : (s : tie.Start) → Words wordCount (wordsOf (s .args .list))
 words s = words-of (s .args .list) (omega arith) (omega arith)
@@ -140,10 +128,10 @@ module _ (a : tie.After-along) where
   solid = accepted-solid (l tested) (w tested) (sym (tested .refusal2 .ensures) ∙ numbered .before .if2 .left) .1
 
   found : a .along .result .found ≡ (supports (countOf (l tested)) (w tested) (plusPieces (l tested) (z tested)) || supports (countOf (l tested)) (w tested) (minusPieces (l tested) (z tested)))
-  found = a .along .ensures .0 ∙ found-along (l tested) (patch-few (l tested) (right (run tested)) .1) (z tested) (low numbered) _ _ (done tested .prepare .ensures .1 .sides (z tested) (low numbered)) (w tested) (words (run tested .before .before)) solid
+  found = a .along .ensures .0 ∙ found-along (l tested) (patch-few (l tested) (right (run tested)) .1) (z tested) (low numbered) _ _ (done tested .prepare .ensures .1 (z tested) (low numbered)) (w tested) (words (run tested .before .before)) solid
 
   given : a .along .result .found ≡ true → wordsOf (a .along .result .list) ≡ flippedOf (countOf (l tested)) (w tested) (circuitAt (l tested) (z tested))
-  given t = a .along .ensures .1 ∙ list-along (l tested) (patch-few (l tested) (right (run tested)) .1) (z tested) (low numbered) _ _ (done tested .prepare .ensures .1 .sides (z tested) (low numbered)) (w tested) (words (run tested .before .before)) solid (sym found ∙ t)
+  given t = a .along .ensures .1 ∙ list-along (l tested) (patch-few (l tested) (right (run tested)) .1) (z tested) (low numbered) _ _ (done tested .prepare .ensures .1 (z tested) (low numbered)) (w tested) (words (run tested .before .before)) solid (sym found ∙ t)
 
 returns-4 : tie.Need-returns-4
 returns-4 c =
@@ -153,17 +141,14 @@ returns-4 c =
 
 refusal-requires-3 : tie.Need-refusal-requires-3
 refusal-requires-3 c κs =
-    let n = tested (c .before .before .before .before .before .before) in
-    let s = solids n in
+    let n = tested (c .before .before .before .before) in
     let p = done n in
-    let q = p .prepare .ensures .1 in
-    let k = p .prepare .kept .1 .1 .1 .1 in
-    (patch-few (l n) (right (run n)) .1, s .solid .ensures, counted n, omega (arith, k .0), omega (arith, k .1 .0), omega (arith, k .1 .1 .0), q .over-plus, q .over-minus, q .edges)
+    (patch-few (l n) (right (run n)) .1, counted n, omega (arith, p .prepare .kept .1 .1 .1 .0), p .prepare .ensures .2)
 
 returns-5 : tie.Need-returns-5
 returns-5 c =
     let b = c .before in
-    let e = b .before .before .before .before .before in
+    let e = b .before .before .before in
     let a = e .before .before in
     let n = tested a in
     flip-bad (l n) (w n) (z n) (run n .before .refusal .ensures) (run n .if1 .left) (n .refusal2 .ensures) (numbered a .before .if2 .left) (low (numbered a)) (found a) (not-false (a .along .result .found) (e .if4 .left)) (given a (not-false (a .along .result .found) (e .if4 .left))) (b .refusal3 .ensures) (c .if5 .taken)
@@ -171,7 +156,7 @@ returns-5 c =
 returns-6 : tie.Need-returns-6
 returns-6 c =
     let b = c .before in
-    let e = b .before .before .before .before .before in
+    let e = b .before .before .before in
     let a = e .before .before in
     let n = tested a in
     flip-good (l n) (w n) (z n) (run n .before .refusal .ensures) (run n .if1 .left) (n .refusal2 .ensures) (numbered a .before .if2 .left) (low (numbered a)) (found a) (not-false (a .along .result .found) (e .if4 .left)) (given a (not-false (a .along .result .found) (e .if4 .left))) (b .refusal3 .ensures) (c .if5 .left)
@@ -185,13 +170,7 @@ flip-spec =
     (λ c. search needs)
     (λ c. search needs)
     (λ c. search needs)
-    (λ c. search needs)
-    (λ c. search needs)
-    (λ c. search needs)
     prepare-requires
-    solid-requires
-    (λ c. search needs)
-    (λ c. search needs)
     (λ c. search needs)
     refusal-requires-2
     returns-2
@@ -203,8 +182,6 @@ flip-spec =
     array-read-along-2
     along-requires
     returns-4
-    (λ c. search needs)
-    (λ c. search needs)
     (λ c. search needs)
     refusal-requires-3
     returns-5

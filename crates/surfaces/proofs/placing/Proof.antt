@@ -17,14 +17,14 @@ unfolding placingOf
 returns c = let l = c .before .before .args .shots .now in shots-refused l (badResult l (placedOf l) ∷ []) _ (c .before .refusal .ensures) (c .if1 .taken)
 
 -- the places of the calls before
-abbrev accepted : tie.After-inner → tie.Else1
-accepted i = i .before .before .before .before .before .before
+abbrev accepted : tie.After-held → tie.Else1
+accepted h = h .before .before .before
 
-abbrev prepared : tie.After-solid → tie.After-prepare
-prepared s = s .before .before .before .before .before .before .before
+abbrev prepared : tie.After-all → tie.After-prepare
+prepared a = a .before .before .before .before .before
 
 abbrev worked : tie.After-refusal2 → tie.After-all
-worked n = n .before .before .before .before
+worked n = n .before .before
 
 right : (d : tie.Else1) → refusalOf (d .before .before .args .shots .now) ≡ 0
 right d = sym (d .before .refusal .ensures) ∙ d .if1 .left
@@ -33,43 +33,34 @@ prepare-requires : tie.Need-prepare-requires
 prepare-requires c κs =
     let d = accepted c in
     let l = d .before .before .args .shots .now in
-    (patch-near l (right d), patch-few l (right d) .1, omega arith, omega arith, omega arith, omega arith, omega arith, omega arith)
-
-solid-requires : tie.Need-solid-requires
-solid-requires c κs =
-    let d = accepted (c .before .before .before .before .before .before .before) in
-    let l = d .before .before .args .shots .now in
-    (patch-near l (right d), patch-few l (right d) .1)
+    (patch-near l (right d), patch-few l (right d) .1, omega arith, omega arith, omega arith)
 
 all-requires : tie.Need-all-requires
 all-requires c κs =
-    let p = prepared (c .before) in
+    let p = c .before .before .before .before in
     let d = accepted (p .before) in
     let l = d .before .before .args .shots .now in
-    (right d, omega (arith, patch-few l (right d) .1, p .prepare .kept .1 .0), p .prepare .ensures .1 .holding)
+    (right d, omega (arith, patch-few l (right d) .1, p .prepare .kept .1 .1 .1 .0), p .prepare .ensures .2 .holding)
 
 refusal-requires-2 : tie.Need-refusal-requires-2
 refusal-requires-2 c κs =
-    let s = c .before .before .before .before .before in
-    let p = prepared s in
+    let p = prepared (c .before) in
     let d = accepted (p .before) in
     let l = d .before .before .args .shots .now in
-    let q = p .prepare .ensures .1 in
-    let k = p .prepare .kept .1 .1 .1 .1 in
-    (patch-few l (right d) .1, s .solid .ensures, p .prepare .ensures .0, omega (arith, k .0), omega (arith, k .1 .0), omega (arith, k .1 .1 .0), q .over-plus, q .over-minus, q .edges)
+    (patch-few l (right d) .1, p .prepare .ensures .0, omega (arith, p .prepare .kept .1 .1 .1 .0), p .prepare .ensures .2)
 
 returns-2 : tie.Need-returns-2
 returns-2 c =
     let n = c .before in
     let a = worked n in
-    let d = accepted (prepared (a .before .before) .before) in
+    let d = accepted (prepared a .before) in
     placing-bad (d .before .before .args .shots .now) (d .before .refusal .ensures) (d .if1 .left) (a .all .ensures) (n .refusal2 .ensures) (c .if2 .taken)
 
 returns-3 : tie.Need-returns-3
 returns-3 c =
     let n = c .before in
     let a = worked n in
-    let d = accepted (prepared (a .before .before) .before) in
+    let d = accepted (prepared a .before) in
     placing-good (d .before .before .args .shots .now) (d .before .refusal .ensures) (d .if1 .left) (a .all .ensures) (n .refusal2 .ensures) (c .if2 .left)
 
 pub placing-spec : {M : Type 1} → statement M
@@ -81,15 +72,9 @@ placing-spec =
     (λ c. search needs)
     (λ c. search needs)
     (λ c. search needs)
-    (λ c. search needs)
-    (λ c. search needs)
-    (λ c. search needs)
     prepare-requires
-    solid-requires
     (λ c. search needs)
     all-requires
-    (λ c. search needs)
-    (λ c. search needs)
     (λ c. search needs)
     refusal-requires-2
     returns-2

@@ -10,26 +10,27 @@ use Rattle.algebra.specs.Words.{meetsOf, rowOf}
 use Rattle.algebra.proofs.LoopLaws.{any-none, found, go-on, none}
 use Rattle.triples.specs.Sizes.{wordCount}
 use Rattle.triples.specs.Sets.{wordsOf}
+use Rattle.lists.specs.Held.{plusRow, minusRow}
 use Rattle.lists.proofs.core.crossing.Statement.{statement}
 use Rattle.lists.proofs.core.crossing.Tie as tie
 
-abbrev crossed : List ℕ → List ℕ → List ℕ → ℕ → Bool
-crossed p m w z = meetsOf w (rowOf wordCount p z) && meetsOf w (rowOf wordCount m z)
+abbrev crossed : List ℕ → List ℕ → ℕ → Bool
+crossed w t z = meetsOf w (rowOf wordCount t (plusRow z)) && meetsOf w (rowOf wordCount t (minusRow z))
 
 and-off : (a b : Bool) → a ≡ false → (a && b) ≡ false
 and-off a b e = ap (λ (c : Bool). c && b) e
 
 abbrev Inv-loop : tie.InvT-loop
-Inv-loop around-plus around-minus count list z₀ z = (z ≤ count) × (any z (crossed around-plus around-minus (wordsOf list)) ≡ false)
+Inv-loop held count list z₀ z = (z ≤ count) × (any z (crossed (wordsOf list) held) ≡ false)
 
 abbrev μ-loop : tie.MeasureT-loop
-μ-loop around-plus around-minus count list z₀ z = count - z
+μ-loop held count list z₀ z = count - z
 
 loop-holds : tie.Need-loop-holds Inv-loop μ-loop
 loop-holds c = (search needs, any-none _)
 
 plus-here : (q : tie.After-meets Inv-loop μ-loop)
-    → let l = q .before .before .before in q .meets .result ≡ meetsOf (wordsOf (l .before .before .before .args .list)) (rowOf wordCount (l .before .before .before .args .around-plus .now) (l .loop .z))
+    → let l = q .before .before .before in q .meets .result ≡ meetsOf (wordsOf (l .before .before .args .list)) (rowOf wordCount (l .before .before .args .held .now) (plusRow (l .loop .z)))
 plus-here q = q .meets .ensures ∙ ap (meetsOf _) (q .before .row-at .ensures)
 
 returns : tie.Need-returns Inv-loop μ-loop
@@ -60,8 +61,10 @@ crossing-spec =
     Inv-loop
     μ-loop
     loop-holds
+    (λ c. search needs)
     (λ c κs. search needs)
     (λ c κs. search needs)
+    (λ c. search needs)
     (λ c κs. search needs)
     (λ c κs. search needs)
     returns

@@ -19,11 +19,11 @@ words : (s : tie.Start) → Words wordCount (wordsOf (s .args .list))
 words s = words-of (s .args .list) (omega arith) (omega arith)
 
 few : (s : tie.Start) → s .args .count ≤ circuitsMost
-few s = omega (arith, s .pre .2, circuits-most (s .args .shots .now) (s .pre .0))
+few s = omega (arith, s .pre .1, circuits-most (s .args .shots .now) (s .pre .0))
 
 -- the places of the tests before
 abbrev start : tie.After-inside → tie.Start
-start i = i .before .before .before .before
+start i = i .before .before .before
 
 abbrev inside-of : tie.After-is-empty → tie.After-inside
 inside-of k = k .before .before
@@ -34,10 +34,10 @@ empty-of x = x .before .before
 -- the first test is that of the solid triples
 solid : (i : tie.After-inside) {b : Bool} → not (i .inside .result) ≡ b → insideOf (wordsOf (start i .args .list)) (solidOf (start i .args .shots .now)) ≡ not b
 solid i e =
-    ap (insideOf (wordsOf (start i .args .list))) (sym (start i .pre .1)) ∙ sym (i .inside .ensures) ∙ sym (Bool·not-not (i .inside .result)) ∙ ap not e
+    ap (insideOf (wordsOf (start i .args .list))) (sym (i .before .row-at .ensures ∙ start i .pre .3 .solid)) ∙ sym (i .inside .ensures) ∙ sym (Bool·not-not (i .inside .result)) ∙ ap not e
 
 crossed : (x : tie.After-crossing) {b : Bool} → x .crossing .result ≡ b
-    → let a = start (inside-of (empty-of x)) .args in crossedBy (wordsOf (a .list)) (a .around-plus .now) (a .around-minus .now) (a .count) ≡ b
+    → let a = start (inside-of (empty-of x)) .args in crossedBy (wordsOf (a .list)) (a .held .now) (a .count) ≡ b
 crossed x e = sym (x .crossing .ensures) ∙ e
 
 returns : tie.Need-returns
@@ -50,7 +50,7 @@ returns-2 c =
     refusal-10 _ _ (s .pre .0) (words s) (solid (e .before) (e .if1 .left)) (sym (c .before .is-empty .ensures) ∙ c .if2 .taken)
 
 crossing-requires : tie.Need-crossing-requires
-crossing-requires c κs = let s = start (inside-of (c .before)) in (omega (arith, few s), omega (arith, few s))
+crossing-requires c κs = let s = start (inside-of (c .before)) in (few s, s .pre .2)
 
 returns-3 : tie.Need-returns-3
 returns-3 c =
@@ -58,7 +58,7 @@ returns-3 c =
     let k = x .before in
     let e = k .before .before in
     let s = start (e .before) in
-    refusal-8 _ _ (s .pre .0) (words s) (solid (e .before) (e .if1 .left)) _ _ _ (s .pre .6) (s .pre .7) (s .pre .2) (sym (k .before .is-empty .ensures) ∙ k .if2 .left)
+    refusal-8 _ _ (s .pre .0) (words s) (solid (e .before) (e .if1 .left)) _ _ (s .pre .3 .over-plus) (s .pre .3 .over-minus) (s .pre .1) (sym (k .before .is-empty .ensures) ∙ k .if2 .left)
     (crossed x (c .if3 .taken))
 
 returns-4 : tie.Need-returns-4
@@ -67,8 +67,8 @@ returns-4 c =
     let k = x .before .before in
     let e = k .before .before in
     let s = start (e .before) in
-    refusal-9 _ _ (s .pre .0) (words s) (solid (e .before) (e .if1 .left)) _ _ _ (s .pre .6) (s .pre .7) (s .pre .2) (sym (k .before .is-empty .ensures) ∙ k .if2 .left)
-    _ (s .pre .8) (crossed (x .before) (x .if3 .left)) (sym (c .before .«open» .ensures) ∙ c .if4 .taken)
+    refusal-9 _ _ (s .pre .0) (words s) (solid (e .before) (e .if1 .left)) _ _ (s .pre .3 .over-plus) (s .pre .3 .over-minus) (s .pre .1) (sym (k .before .is-empty .ensures) ∙ k .if2 .left)
+    (s .pre .3 .edges) (crossed (x .before) (x .if3 .left)) (sym (c .before .«open» .ensures) ∙ c .if4 .taken)
 
 returns-5 : tie.Need-returns-5
 returns-5 c =
@@ -76,13 +76,14 @@ returns-5 c =
     let k = x .before .before in
     let e = k .before .before in
     let s = start (e .before) in
-    refusal-0 _ _ (s .pre .0) (words s) (solid (e .before) (e .if1 .left)) _ _ _ (s .pre .6) (s .pre .7) (s .pre .2) (sym (k .before .is-empty .ensures) ∙ k .if2 .left)
-    _ (s .pre .8) (crossed (x .before) (x .if3 .left)) (sym (c .before .«open» .ensures) ∙ c .if4 .left)
+    refusal-0 _ _ (s .pre .0) (words s) (solid (e .before) (e .if1 .left)) _ _ (s .pre .3 .over-plus) (s .pre .3 .over-minus) (s .pre .1) (sym (k .before .is-empty .ensures) ∙ k .if2 .left)
+    (s .pre .3 .edges) (crossed (x .before) (x .if3 .left)) (sym (c .before .«open» .ensures) ∙ c .if4 .left)
 
 pub refusal-spec : {M : Type 1} → statement M
 refusal-spec =
     tie.close
     (tie.spec
+    (λ c κs. search needs)
     (λ c κs. search needs)
     returns
     (λ c κs. search needs)

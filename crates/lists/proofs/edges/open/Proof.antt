@@ -17,10 +17,10 @@ abbrev lone : List ℕ → List ℕ → ℕ → Bool
 lone w t j = any j (λ i. aloneOf (bothOf w (rowOf wordCount t (innerRow i j))))
 
 abbrev Inv-loop : tie.InvT-loop
-Inv-loop inner n list j₀ j = (j ≤ n) × (any j (lone (wordsOf list) inner) ≡ false)
+Inv-loop held n list j₀ j = (j ≤ n) × (any j (lone (wordsOf list) held) ≡ false)
 
 abbrev μ-loop : tie.MeasureT-loop
-μ-loop inner n list j₀ j = n - j
+μ-loop held n list j₀ j = n - j
 
 loop-holds : tie.Need-loop-holds Inv-loop μ-loop
 loop-holds c = (search needs, any-none _)

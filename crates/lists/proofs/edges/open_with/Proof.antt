@@ -17,16 +17,16 @@ abbrev lone : List ℕ → List ℕ → ℕ → ℕ → Bool
 lone w t j i = aloneOf (bothOf w (rowOf wordCount t (innerRow i j)))
 
 abbrev Inv-loop : tie.InvT-loop
-Inv-loop inner j list i₀ i = (i ≤ j) × (any i (lone (wordsOf list) inner j) ≡ false)
+Inv-loop held j list i₀ i = (i ≤ j) × (any i (lone (wordsOf list) held j) ≡ false)
 
 abbrev μ-loop : tie.MeasureT-loop
-μ-loop inner j list i₀ i = j - i
+μ-loop held j list i₀ i = j - i
 
 loop-holds : tie.Need-loop-holds Inv-loop μ-loop
 loop-holds c = (search needs, any-none _)
 
 here : (q : tie.After-alone Inv-loop μ-loop)
-    → let l = q .before .before .before .before in q .alone .result ≡ lone (wordsOf (l .before .before .args .list)) (l .before .before .args .inner .now) (l .before .before .args .j) (l .loop .i)
+    → let l = q .before .before .before .before in q .alone .result ≡ lone (wordsOf (l .before .before .args .list)) (l .before .before .args .held .now) (l .before .before .args .j) (l .loop .i)
 here q = q .alone .ensures ∙ ap aloneOf (q .before .both .ensures ∙ ap (bothOf _) (q .before .before .row-at .ensures))
 
 returns : tie.Need-returns Inv-loop μ-loop
@@ -45,6 +45,7 @@ open-with-spec =
     Inv-loop
     μ-loop
     loop-holds
+    (λ c. search needs)
     (λ c. search needs)
     (λ c. search needs)
     (λ c κs. search needs)

@@ -1,0 +1,37 @@
+-- Rows and what is reached from one of them by flips, for any number of circuits and any flip, as a relation.
+--
+--   Reach C F r₀ r        r is reached from r₀ by flips F along the circuits below C
+--   Stands k t n r        r is one of the first n rows, of k words each, of the table t
+--   Closed C F r₀ row n s   the walk's invariant over rows `row 0`, `row 1`, ..: n rows are in use and s steps are made
+--     some, first, below  there is a row, the first is r₀, and s is at most n × C
+--     once                no two rows are the same
+--     reached             each row is reached from r₀
+--     tried               what the flip of step k < s gives is one of the rows
+--
+-- Laws: proofs/ReachLaws. Source: document 01, "The walk"; demand 3.
+use mathlib.Core.Path.{_≡_}
+use mathlib.Core.List.{List}
+use Prim.Native.Nat.{ℕ, _*_, _/_, _%_, _<_, _≤_}
+use Rattle.algebra.specs.Words.{rowOf}
+
+abbrev pub Flipping : Type 1
+Flipping = List ℕ → ℕ → List ℕ → Type 0
+
+pub data Reach (C : ℕ) (F : Flipping) (r₀ : List ℕ) : List ℕ → Type 0 where
+  here : Reach C F r₀ r₀
+  by-flip : {r r′ : List ℕ} {z : ℕ} → Reach C F r₀ r → z < C → F r z r′ → Reach C F r₀ r′
+
+-- r is row p for some p below n
+abbrev pub Among : (ℕ → List ℕ) → ℕ → List ℕ → Type 0
+Among row n r = (p : ℕ) × (p < n) × (row p ≡ r)
+
+abbrev pub Stands : ℕ → List ℕ → ℕ → List ℕ → Type 0
+Stands k t n r = Among (rowOf k t) n r
+
+pub record Closed (C : ℕ) (F : Flipping) (r₀ : List ℕ) (row : ℕ → List ℕ) (n s : ℕ) : Type 0 where
+  pub some : 0 < n
+  pub first : row 0 ≡ r₀
+  pub below : s ≤ n * C
+  pub once : (i j : ℕ) → i < j → j < n → row i ≡ row j → ⊥
+  pub reached : (i : ℕ) → i < n → Reach C F r₀ (row i)
+  pub tried : (k : ℕ) → k < s → (r : List ℕ) → F (row (k / C)) (k % C) r → Among row n r
