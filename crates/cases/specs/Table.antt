@@ -1,20 +1,23 @@
--- The proved cases of document 01, "The square with its centre", as one table: a patch, what is asked of it, and the answer that document 01 states.
+-- The proved cases of document 01, "The square with its centre", as one table: a patch, what is asked of it, and the answer that document 01 states; of its run cases those of the walk.
 --
 --   Question      a call and its numbers
 --   Reply         an answer: a value or the number that refuses
 --   replyTo l q   what the call answers, by the definition that its contract cites
 --   Case, table   the cases
 --   triples ts    the words of a list of triples
+--   walkFrom l w t b   a start from the list w over the table t, and then a run of b steps
 --   square        shots 0 (0,0), 1 (2,0), 2 (2,2), 3 (0,2), 4 (1,1)
+--   triangle      shots 0 (0,0), 1 (1,0), 2 (0,1)
 --
 -- Theorem: proofs/Cases (`cases-right`).
-use mathlib.Core.List.{List, [], _∷_}
+use mathlib.Core.List.{List, [], _∷_, _++_}
 use Prim.Native.Nat.{ℕ}
+use lib.ListN.{replicate}
 use lib.IntN.{ℤ, pos, negsuc}
 use Rattle.algebra.specs.Answer.{Answer, gives, refuses}
-use Rattle.shots.specs.Calls.{Cocircuit, orientationOf, cocircuitOf}
-use lib.ListN.{replicate}
 use Rattle.algebra.specs.Words.{putIn}
+use Rattle.reach.specs.Walks.{Reply as Said, made, done, Landing, runOf, startOf}
+use Rattle.shots.specs.Calls.{Cocircuit, orientationOf, cocircuitOf}
 use Rattle.circuits.specs.declared.Sides.{Sides}
 use Rattle.circuits.specs.Sides.{masks}
 use Rattle.circuits.specs.Calls.{countCallOf, circuitCallOf}
@@ -22,6 +25,7 @@ use Rattle.triples.specs.Sizes.{wordCount}
 use Rattle.triples.specs.Ranks.{rankOf}
 use Rattle.lists.specs.Calls.{testOf}
 use Rattle.surfaces.specs.Calls.{placingOf, flipOf}
+use Rattle.walks.specs.Calls.{plane}
 
 pub data Question : Type 0 where
   orientation : ℕ → ℕ → ℕ → Question
@@ -31,6 +35,7 @@ pub data Question : Type 0 where
   test : List ℕ → Question
   placing : Question
   flip : List ℕ → ℕ → Question
+  walk : List ℕ → List ℕ → ℕ → Question
 
 pub data Reply : Type 0 where
   sign : Answer ℤ → Reply
@@ -39,6 +44,10 @@ pub data Reply : Type 0 where
   sides : Answer Sides → Reply
   tested : Answer (Unit {0}) → Reply
   surface : Answer (List ℕ) → Reply
+  walked : Landing → Reply
+
+abbrev pub walkFrom : List ℤ → List ℕ → List ℕ → ℕ → Landing
+walkFrom l w t b = let x = startOf (plane l) t (record { rows = 0; step = 0 }) w in runOf (plane l) (x .table) (x .walk) b
 
 abbrev pub replyTo : List ℤ → Question → Reply
 replyTo l (orientation a b c) = sign (orientationOf l a b c)
@@ -48,6 +57,7 @@ replyTo l (circuit z) = sides (circuitCallOf l z)
 replyTo l (test w) = tested (testOf l w)
 replyTo l placing = surface (placingOf l)
 replyTo l (flip w z) = surface (flipOf l w z)
+replyTo l (walk w t b) = walked (walkFrom l w t b)
 
 pub record Case : Type 0 where
   pub patch : List ℤ
@@ -56,6 +66,9 @@ pub record Case : Type 0 where
 
 abbrev pub square : List ℤ
 square = pos 0 ∷ pos 0 ∷ pos 2 ∷ pos 0 ∷ pos 2 ∷ pos 2 ∷ pos 0 ∷ pos 2 ∷ pos 1 ∷ pos 1 ∷ []
+
+abbrev pub triangle : List ℤ
+triangle = pos 0 ∷ pos 0 ∷ pos 1 ∷ pos 0 ∷ pos 0 ∷ pos 1 ∷ []
 
 -- ---- document 01's words
 
@@ -96,6 +109,22 @@ halves = triples (tri 0 1 2 ∷ tri 0 2 3 ∷ [])
 abbrev others : List ℕ
 others = triples (tri 0 1 3 ∷ tri 1 2 3 ∷ [])
 
+-- the four triangles around the centre
+abbrev around : List ℕ
+around = triples (tri 0 1 4 ∷ tri 0 3 4 ∷ tri 1 2 4 ∷ tri 2 3 4 ∷ [])
+
+-- the one triangle of three shots: rank 0
+abbrev only : List ℕ
+only = 1 ∷ 0 ∷ []
+
+-- a table of n words that were used for something else
+abbrev used : ℕ → List ℕ
+used n = replicate n 7
+
+-- a walk's answer, its rows, its step number and the whole table
+abbrev left : Answer Said → ℕ → ℕ → List ℕ → Reply
+left a n s t = walked (record { answer = a; walk = record { rows = n; step = s }; table = t })
+
 abbrev of-square : Question → Reply → Case
 of-square q r = record { patch = square; asked = q; stated = r }
 
@@ -119,4 +148,9 @@ table =
     ∷ of-square (flip halves 1) (surface (refuses 13))
     ∷ of-square (flip halves 3) (surface (refuses 12))
     ∷ of-square placing (surface (gives halves))
+    ∷ record { patch = triangle; asked = walk only (used 2) 1; stated = left (gives done) 1 0 only }
+    ∷ of-square (walk halves (used 6) 9) (left (gives made) 3 9 (halves ++ (around ++ others)))
+    ∷ of-square (walk halves (used 6) 10) (left (gives done) 3 9 (halves ++ (around ++ others)))
+    ∷ of-square (walk halves (used 4) 9) (left (refuses 11) 2 2 (halves ++ around))
+    ∷ of-square (walk halves (used 5) 9) (left (refuses 11) 2 2 (halves ++ (around ++ 7 ∷ [])))
     ∷ []

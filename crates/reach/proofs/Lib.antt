@@ -1,3 +1,4 @@
 pub mod ReachLaws
 pub mod StepLaws
+pub mod RunLaws
 pub mod Theorem

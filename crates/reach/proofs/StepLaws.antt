@@ -1,38 +1,33 @@
--- The cases of the walk's definitions as equations, for whoever proves code or a theorem against them.
+-- The cases of a step and of a start as equations, for whoever proves code or a theorem against them.
 --
 --   room-for                         a row below the capacity lies in the table
 --   seen-reflects, seen-stands, unseen    the test `seenIn` decides whether r is one of the first n rows
 --   seen-at, unseen-all              what a scan of the rows has found
---   possible-facts, possible-holds   what a record says that is not impossible, and back
 --   impossible-reflects              the test `impossible` decides the three causes of 15: impossible-zero, impossible-beyond, impossible-above
+--   possible-facts, possible-holds   what a record says that is not impossible, and back
+--   store-known, store-full, store-new    what a step makes of a flip's result
 --   walk-refused, walk-impossible, walk-passed    what the first rules make of any landing x
 --   step-passed, run-passed          a step and a run behind the first rules
 --   try-done, try-flip               a step is done, or it tries a flip
 --   after-none, after-refused        what it makes of a flip's refusal
---   store-known, store-full, store-new            what it makes of a flip's result
---   start-refused, start-full, start-writes       a start, by the test's answer and by the room
---   done-made                        done is not made
+--   start-refused, start-full, start-writes, start-facts    a start, by the test's answer and by the room; what is true where it was made
+--   done-made, made-dec              done is not made; whether an answer is made
+--   Goes g t w n l                   what n steps that are made leave: the step number is higher by n, there are as many rows or more, there is room for them still,
+--                                    the step number is still at most rows × C, and the earlier rows stay as they were
+--   goes-none, goes-on, step-goes    no step, one more, one: each goes so where it is made
+--   goes-possible                    a record that was possible is so after them
 --   step-unmade, step-keeps, done-keeps, start-keeps    a call that is not made changes nothing
 --   step-stops, step-never-started   a step that is not made is done or refuses; no step answers started
---   step-counts, done-end            a step that is made raises the step number by 1; done is answered at the end alone
---   start-facts                      what is true where a start was made
---   steps-none, steps-one, steps-add    no step, one step, a + b steps
---   bundle-made, bundle-stop         b steps, by what the first a of them answer
---   steps-made, steps-stop, steps-first    the same by what the first one answers, in two forms
---   steps-count                      so many steps that are made raise the step number by so many
---   run-one                          a run of one step is a step
---   Stood g t w b l                  of b steps so many were made, and stand: the table and the record of l are theirs, and its answer is the next step's
---   steps-stand, run-stands          the earlier steps of a run stand
---   steps-refuse                     steps answer a refusal exactly when some are made and the next one, still wanted, answers it
+--   done-end                         done is answered at the end alone
 --
--- Source: document 01, "The walk", "Refusal numbers".
-use mathlib.Core.Path.{_≡_, refl, sym, ap, _∙_}
-use mathlib.Core.Logic.{_⊎_, inl, inr, ⊎-elim, _↔_}
+-- Several steps: proofs/RunLaws. Source: document 01, "The walk", "Refusal numbers".
+use mathlib.Core.Path.{_≡_, refl, sym, ap, _∙_, subst}
+use mathlib.Core.Logic.{_⊎_, inl, inr, ⊎-elim}
 use mathlib.Core.Bool.{Bool, true, false, cond}
 use mathlib.Core.List.{List, [], _∷_}
-use Prim.Native.Nat.{ℕ, zero, suc, _+_, _-_, _*_, _/_, _%_, _<_, _≤_}
+use Prim.Native.Nat.{ℕ, suc, _+_, _*_, _/_, _%_, _<_, _≤_}
 use native.Mathlib.Omega.{arith}
-use native.Mathlib.Nat.{min-le-left, mul-le-mul-left, mul-div-le}
+use native.Mathlib.Nat.{min-le-left, mul-le-mul-left, mul-le-mul-right, mul-div-le}
 use lib.Dec.{eqb}
 use lib.ListN.{length}
 use borrow.Author.Tests.{eq-eqb, ne-eqb, eqb-true, eqb-false}
@@ -43,9 +38,11 @@ use Rattle.algebra.proofs.AnswerLaws.{given-refused, chain-broken, chain-kept, 
 use Rattle.algebra.proofs.AnswerLaws.{reflects-yes, reflects-no, reflects-true, reflects-false, reflects-or, reflects-eqb, reflects-ltb}
 use Rattle.algebra.proofs.LoopLaws.{reflects-any}
 use Rattle.algebra.proofs.SetTests.{reflects-same}
+use Rattle.algebra.proofs.WordLaws.{row-length, row-other, setRow-length}
 use Rattle.reach.specs.Walks.{Ground, WalkRecord, Reply, started, made, done, Landing, leaves, onlyIf, rowsMost, capacityOf, seenIn, impossible, walkRules, counted, grown}
-use Rattle.reach.specs.Walks.{storeOf, afterFlip, tryOf, stepOf, goOn, stepsOf, runOf, begin, startOf}
+use Rattle.reach.specs.Walks.{storeOf, afterFlip, tryOf, stepOf, stepsOf, runOf, begin, startOf}
 use Rattle.reach.specs.Reach.{Stands}
+use Rattle.reach.specs.Walked.{Keeps}
 
 -- ---- rows
 
@@ -195,43 +192,87 @@ started-made e = let z : _≡_ {A = ℕ} 0 1 = cc in absurd (omega arith)
 started-done : {X : Type 0} → _≡_ {A = Answer Reply} (gives started) (gives done) → X
 started-done e = let z : _≡_ {A = ℕ} 0 1 = cc in absurd (omega arith)
 
-is-made : (a : Answer Reply) → Dec (a ≡ gives made)
-is-made (gives started) = no started-made
-is-made (gives made) = yes refl
-is-made (gives done) = no done-made
-is-made (refuses n) = no (λ e. given-refused (sym e))
+pub made-dec : (a : Answer Reply) → Dec (a ≡ gives made)
+made-dec (gives started) = no started-made
+made-dec (gives made) = yes refl
+made-dec (gives done) = no done-made
+made-dec (refuses n) = no (λ e. given-refused (sym e))
 
--- a step is made, and its number is counted; or everything is as it was, and it is done at the end, or refuses
+pub record Goes (g : Ground) (t : List ℕ) (w : WalkRecord) (n : ℕ) (l : Landing) : Type 0 where
+  pub counts : l .walk .step ≡ w .step + n
+  pub grows : w .rows ≤ l .walk .rows
+  pub room : w .rows ≤ capacityOf (g .words) (length t) → l .walk .rows ≤ capacityOf (g .words) (length (l .table))
+  pub below : w .step ≤ w .rows * g .circuits → l .walk .step ≤ l .walk .rows * g .circuits
+  pub stay : Keeps g → (p : ℕ) → p < w .rows → rowOf (g .words) (l .table) p ≡ rowOf (g .words) t p
+
+module _ {g : Ground} {t : List ℕ} {w : WalkRecord} where
+  pub goes-none : Goes g t w 0 (leaves t w (gives made))
+  goes-none = record { counts = omega arith; grows = omega arith; room = λ h. h; below = λ h. h; stay = λ k p l. refl }
+
+  pub goes-on : {l m : Landing} (n : ℕ) → Goes g t w 1 l → Goes g (l .table) (l .walk) n m → Goes g t w (suc n) m
+  goes-on n a b = record {
+    counts = let c = a .counts in let d = b .counts in omega arith;
+    grows = let c = a .grows in let d = b .grows in omega arith;
+    room = λ h. b .room (a .room h);
+    below = λ h. b .below (a .below h);
+    stay = λ k p l. b .stay k p (let c = a .grows in omega arith) ∙ a .stay k p l;
+  }
+
+  pub goes-possible : {n : ℕ} {l : Landing} → Goes g t w n l → impossible (capacityOf (g .words) (length t)) w (g .circuits) ≡ false
+      → impossible (capacityOf (g .words) (length (l .table))) (l .walk) (g .circuits) ≡ false
+  goes-possible a e = let f = possible-facts _ w _ e in possible-holds _ _ _ (let c = a .grows in let d = f .0 in omega arith) (a .room (f .1)) (a .below (f .2))
+
+-- a step is made; or everything is as it was, and it is done at the end, or refuses
 data Outcome (g : Ground) (t : List ℕ) (w : WalkRecord) : Landing → Type 0 where
-  goes : (u : List ℕ) (n : ℕ) → Outcome g t w (leaves u (record { rows = n; step = w .step + 1 }) (gives made))
+  goes : (u : List ℕ) (v : WalkRecord) → Goes g t w 1 (leaves u v (gives made)) → Outcome g t w (leaves u v (gives made))
   ends : w .step ≡ w .rows * g .circuits → Outcome g t w (leaves t w (gives done))
   stays : (n : ℕ) → Outcome g t w (leaves t w (refuses n))
 
 module _ (g : Ground) (t : List ℕ) (w : WalkRecord) where
-  outcome-store : (r : List ℕ) → Outcome g t w (storeOf (g .words) t w r)
-  unfolding storeOf
-  outcome-store r = go (seenIn (g .words) t (w .rows) r) (eqb (w .rows) (capacityOf (g .words) (length t)))
-    where
-      go : (a b : Bool) → Outcome g t w (cond a (leaves t (counted w) (gives made)) (cond b (leaves t w (refuses 11)) (leaves (setRow t (w .rows) r) (grown w) (gives made))))
-      go true b = goes t (w .rows)
-      go false true = stays 11
-      go false false = goes (setRow t (w .rows) r) (w .rows + 1)
+  abbrev tried : Answer (List ℕ)
+  tried = g .flip (rowOf (g .words) t (w .step / g .circuits)) (w .step % g .circuits)
 
-  outcome-flip : (x : Answer (List ℕ)) → Outcome g t w (afterFlip g t w x)
-  outcome-flip (gives r) = outcome-store r
-  outcome-flip (refuses n) = go (eqb n 13)
-    where
-      go : (b : Bool) → Outcome g t w (cond b (leaves t (counted w) (gives made)) (leaves t w (refuses n)))
-      go true = goes t (w .rows)
-      go false = stays n
+  -- where a circuit is left to try
+  module _ (ne : w .step ≡ w .rows * g .circuits → ⊥) where
+    outcome-counted : Outcome g t w (leaves t (counted w) (gives made))
+    outcome-counted = goes t (counted w) (record { counts = refl; grows = omega arith; room = λ h. h; below = λ h. omega arith; stay = λ k p l. refl })
+
+    outcome-grown : (r : List ℕ) → tried ≡ gives r → (w .rows ≡ capacityOf (g .words) (length t) → ⊥) → Outcome g t w (leaves (setRow t (w .rows) r) (grown w) (gives made))
+    outcome-grown r f full =
+        goes (setRow t (w .rows) r) (grown w)
+        (record {
+          counts = refl;
+          grows = omega arith;
+          room = λ h. rw setRow-length (omega arith);
+          below = λ h. let m = mul-le-mul-right (g .circuits) (let i : w .rows ≤ w .rows + 1 = omega arith in i) in omega arith;
+          stay = λ k p l. row-other (g .words) t (w .rows) p r (k _ r _ (row-length (g .words) t (w .step / g .circuits)) f) (λ q. omega arith);
+        })
+
+    outcome-store : (r : List ℕ) → tried ≡ gives r → Outcome g t w (storeOf (g .words) t w r)
+    unfolding storeOf
+    outcome-store r f = go (seenIn (g .words) t (w .rows) r) (eqb (w .rows) (capacityOf (g .words) (length t))) refl
+      where
+        go : (a b : Bool) → eqb (w .rows) (capacityOf (g .words) (length t)) ≡ b
+            → Outcome g t w (cond a (leaves t (counted w) (gives made)) (cond b (leaves t w (refuses 11)) (leaves (setRow t (w .rows) r) (grown w) (gives made))))
+        go true b e = outcome-counted
+        go false true e = stays 11
+        go false false e = outcome-grown r f (eqb-false _ _ e)
+
+    outcome-flip : (x : Answer (List ℕ)) → tried ≡ x → Outcome g t w (afterFlip g t w x)
+    outcome-flip (gives r) f = outcome-store r f
+    outcome-flip (refuses n) f = go (eqb n 13)
+      where
+        go : (b : Bool) → Outcome g t w (cond b (leaves t (counted w) (gives made)) (leaves t w (refuses n)))
+        go true = outcome-counted
+        go false = stays n
 
   outcome-try : Outcome g t w (tryOf g t w)
   unfolding tryOf
-  outcome-try = go (eqb (w .step) (w .rows * g .circuits)) refl (outcome-flip (g .flip (rowOf (g .words) t (w .step / g .circuits)) (w .step % g .circuits)))
+  outcome-try = go (eqb (w .step) (w .rows * g .circuits)) refl
     where
-      go : (b : Bool) → eqb (w .step) (w .rows * g .circuits) ≡ b → {l : Landing} → Outcome g t w l → Outcome g t w (cond b (leaves t w (gives done)) l)
-      go true e o = ends (eqb-true _ _ e)
-      go false e o = o
+      go : (b : Bool) → eqb (w .step) (w .rows * g .circuits) ≡ b → Outcome g t w (cond b (leaves t w (gives done)) (afterFlip g t w tried))
+      go true e = ends (eqb-true _ _ e)
+      go false e = outcome-flip (eqb-false _ _ e) tried refl
 
   -- rules in front refuse, or change nothing
   outcome-rules : (rs : List Rule) {x : Landing} → Outcome g t w x → Outcome g t w (onlyIf t w (chain rs x))
@@ -253,7 +294,7 @@ module _ (g : Ground) (t : List ℕ) (w : WalkRecord) where
   step-unmade = go outcome
     where
       go : {l : Landing} → Outcome g t w l → (l .answer ≡ gives made → ⊥) → l ≡ leaves t w (l .answer)
-      go (goes u n) h = absurd (h refl)
+      go (goes u v x) h = absurd (h refl)
       go (ends q) h = refl
       go (stays n) h = refl
 
@@ -261,15 +302,16 @@ module _ (g : Ground) (t : List ℕ) (w : WalkRecord) where
   step-stops = go outcome
     where
       go : {l : Landing} → Outcome g t w l → (l .answer ≡ gives made → ⊥) → (l .answer ≡ gives done) ⊎ ((n : ℕ) × (l .answer ≡ refuses n))
-      go (goes u n) h = absurd (h refl)
+      go (goes u v x) h = absurd (h refl)
       go (ends q) h = inl refl
       go (stays n) h = inr (n, refl)
 
-  pub step-counts : stepOf g t w .answer ≡ gives made → stepOf g t w .walk .step ≡ w .step + 1
-  step-counts = go outcome
+  -- l is what a callee leaves
+  pub step-goes : {l : Landing} → l ≡ stepOf g t w → l .answer ≡ gives made → Goes g t w 1 l
+  step-goes is = go (subst (Outcome g t w) (sym is) outcome)
     where
-      go : {l : Landing} → Outcome g t w l → l .answer ≡ gives made → l .walk .step ≡ w .step + 1
-      go (goes u n) e = refl
+      go : {l : Landing} → Outcome g t w l → l .answer ≡ gives made → Goes g t w 1 l
+      go (goes u v x) e = x
       go (ends q) e = done-made e
       go (stays n) e = given-refused (sym e)
 
@@ -277,7 +319,7 @@ module _ (g : Ground) (t : List ℕ) (w : WalkRecord) where
   done-end = go outcome
     where
       go : {l : Landing} → Outcome g t w l → l .answer ≡ gives done → w .step ≡ w .rows * g .circuits
-      go (goes u n) e = done-made (sym e)
+      go (goes u v x) e = done-made (sym e)
       go (ends q) e = q
       go (stays n) e = given-refused (sym e)
 
@@ -309,176 +351,3 @@ module _ (g : Ground) (t : List ℕ) (w : WalkRecord) where
     pub start-facts : startOf g t w r .answer ≡ gives started
         → (g .test r ≡ gives tt) × (0 < capacityOf (g .words) (length t)) × (startOf g t w r ≡ leaves (setRow t 0 r) (record { rows = 1; step = 0 }) (gives started))
     start-facts e = start-cases (λ m q. given-refused (sym e ∙ ap (λ (l : Landing). l .answer) q)) (λ p l q. (p, l, q))
-
--- ---- steps
-
--- k of what m left where m was made, and else m itself
-abbrev onward : (Landing → Landing) → Landing → Landing
-onward k m = goOn m (m .answer) (k m)
-
-onward-made : (k : Landing → Landing) (l : Landing) → l .answer ≡ gives made → onward k l ≡ k l
-onward-made k l e = ap (λ (a : Answer Reply). goOn l a (k l)) e
-
-onward-stops : (k : Landing → Landing) (l : Landing) → (l .answer ≡ gives made → ⊥) → onward k l ≡ l
-onward-stops k l h = go (l .answer) refl
-  where
-    go : (a : Answer Reply) → l .answer ≡ a → goOn l a (k l) ≡ l
-    go (gives started) e = refl
-    go (gives made) e = absurd (h e)
-    go (gives done) e = refl
-    go (refuses n) e = refl
-
--- one after the other, grouped either way
-onward-grouped : (k : Landing → Landing) (m l : Landing) → onward (λ _. onward k m) l ≡ onward k (onward (λ _. m) l)
-onward-grouped k m l = go (is-made (l .answer))
-  where
-    go : Dec (l .answer ≡ gives made) → onward (λ _. onward k m) l ≡ onward k (onward (λ _. m) l)
-    go (yes e) = onward-made (λ _. onward k m) l e ∙ ap (onward k) (sym (onward-made (λ _. m) l e))
-    go (no h) = onward-stops (λ _. onward k m) l h ∙ sym (onward-stops k l h) ∙ ap (onward k) (sym (onward-stops (λ _. m) l h))
-
-module _ (g : Ground) where
-  abbrev stepsAfter : ℕ → Landing → Landing
-  stepsAfter b l = stepsOf g b (l .table) (l .walk)
-
-  pub steps-none : (t : List ℕ) (w : WalkRecord) → stepsOf g 0 t w ≡ leaves t w (gives made)
-  unfolding stepsOf
-  steps-none t w = refl
-
-  pub steps-one : (t : List ℕ) (w : WalkRecord) → stepsOf g 1 t w ≡ stepOf g t w
-  unfolding stepsOf
-  steps-one t w = go (is-made (stepOf g t w .answer))
-    where
-      go : Dec (stepOf g t w .answer ≡ gives made) → onward (stepsAfter 0) (stepOf g t w) ≡ stepOf g t w
-      go (yes e) = onward-made (stepsAfter 0) (stepOf g t w) e ∙ ap (leaves (stepOf g t w .table) (stepOf g t w .walk)) (sym e)
-      go (no h) = onward-stops (stepsAfter 0) (stepOf g t w) h
-
-  pub steps-add : (a b : ℕ) (t : List ℕ) (w : WalkRecord)
-      → stepsOf g (a + b) t w ≡ goOn (stepsOf g a t w) (stepsOf g a t w .answer) (stepsOf g b (stepsOf g a t w .table) (stepsOf g a t w .walk))
-  unfolding stepsOf
-  steps-add zero b t w = ap (λ (n : ℕ). stepsOf g n t w) (let e : 0 + b ≡ b = omega arith in e)
-  steps-add (suc a) b t w =
-      let l : Landing = stepOf g t w in
-      ap (λ (n : ℕ). stepsOf g n t w) (let e : suc a + b ≡ suc (a + b) = omega arith in e)
-      ∙ ap (λ (m : Landing). onward (λ _. m) l) (steps-add a b (l .table) (l .walk))
-      ∙ onward-grouped (stepsAfter b) (stepsAfter a l) l
-
-  -- by what the first a of b steps answer
-  module _ (t : List ℕ) (w : WalkRecord) (a b : ℕ) (h : a ≤ b) (l : Landing) (is : l ≡ stepsOf g a t w) where
-    parted : stepsOf g b t w ≡ onward (stepsAfter (b - a)) l
-    parted = ap (λ (n : ℕ). stepsOf g n t w) (let e : b ≡ a + (b - a) = omega arith in e) ∙ steps-add a (b - a) t w ∙ ap (onward (stepsAfter (b - a))) (sym is)
-
-    pub bundle-made : l .answer ≡ gives made → stepsOf g b t w ≡ stepsOf g (b - a) (l .table) (l .walk)
-    bundle-made e = parted ∙ onward-made (stepsAfter (b - a)) l e
-
-    pub bundle-stop : (l .answer ≡ gives made → ⊥) → stepsOf g b t w ≡ l
-    bundle-stop ne = parted ∙ onward-stops (stepsAfter (b - a)) l ne
-
-  -- by what the first answers
-  module _ (t : List ℕ) (w : WalkRecord) (b : ℕ) (h : 0 < b) (l : Landing) (is : l ≡ stepOf g t w) where
-    pub steps-made : l .answer ≡ gives made → stepsOf g b t w ≡ stepsOf g (b - 1) (l .table) (l .walk)
-    steps-made e = bundle-made t w 1 b h l (is ∙ sym (steps-one t w)) e
-
-    pub steps-stop : (l .answer ≡ gives made → ⊥) → stepsOf g b t w ≡ l
-    steps-stop ne = bundle-stop t w 1 b h l (is ∙ sym (steps-one t w)) ne
-
-  pub steps-first : {X : Type 0} (n : ℕ) (t : List ℕ) (w : WalkRecord)
-      → (stepOf g t w .answer ≡ gives made → stepsOf g (suc n) t w ≡ stepsOf g n (stepOf g t w .table) (stepOf g t w .walk) → X)
-      → ((stepOf g t w .answer ≡ gives made → ⊥) → stepsOf g (suc n) t w ≡ stepOf g t w → X) → X
-  unfolding stepsOf
-  steps-first {X} n t w f h = go (is-made (stepOf g t w .answer))
-    where
-      go : Dec (stepOf g t w .answer ≡ gives made) → X
-      go (yes e) = f e (onward-made (stepsAfter n) (stepOf g t w) e)
-      go (no ne) = h ne (onward-stops (stepsAfter n) (stepOf g t w) ne)
-
-  pub steps-count : (n : ℕ) (t : List ℕ) (w : WalkRecord) → stepsOf g n t w .answer ≡ gives made → stepsOf g n t w .walk .step ≡ w .step + n
-  steps-count zero t w e = rw (steps-none t w) (omega arith)
-  steps-count (suc n) t w e =
-      steps-first n t w (λ m q. let c = step-counts g t w m in let i = steps-count n (stepOf g t w .table) (stepOf g t w .walk) (rw q at e) in rw q (omega arith))
-      (λ ne q. absurd (ne (rw q at e)))
-
--- ---- runs
-
--- the same rules tested twice
-rules-twice : (t : List ℕ) (w : WalkRecord) (rs : List Rule) (x : Landing) → onlyIf t w (chain rs (onlyIf t w (chain rs x))) ≡ onlyIf t w (chain rs x)
-unfolding chain
-rules-twice t w [] x = refl
-rules-twice t w (r ∷ rs) x = go (r .broken) (rules-twice t w rs x)
-  where
-    go : (b : Bool) → onlyIf t w (chain rs (onlyIf t w (chain rs x))) ≡ onlyIf t w (chain rs x)
-        → onlyIf t w (cond b (refuses (r .number)) (chain rs (onlyIf t w (cond b (refuses (r .number)) (chain rs x))))) ≡ onlyIf t w (cond b (refuses (r .number)) (chain rs x))
-    go true e = refl
-    go false e = e
-
-pub run-one : (g : Ground) (t : List ℕ) (w : WalkRecord) → runOf g t w 1 ≡ stepOf g t w
-unfolding runOf stepOf
-run-one g t w = ap (λ (l : Landing). onlyIf t w (chain (walkRules g t w) l)) (steps-one g t w) ∙ rules-twice t w (walkRules g t w) (tryOf g t w)
-
-pub record Stood (g : Ground) (t : List ℕ) (w : WalkRecord) (b : ℕ) (l : Landing) : Type 0 where
-  pub count : ℕ
-  pub most : count ≤ b
-  pub made-all : stepsOf g count t w .answer ≡ gives made
-  pub table-is : l .table ≡ stepsOf g count t w .table
-  pub walk-is : l .walk ≡ stepsOf g count t w .walk
-  pub answer-is : ((count ≡ b) × (l .answer ≡ gives made)) ⊎ ((l .answer ≡ stepOf g (stepsOf g count t w .table) (stepsOf g count t w .walk) .answer) × (l .answer ≡ gives made → ⊥))
-
-module _ (g : Ground) where
-  -- no step is made, one is made in front
-  stood-none : (t : List ℕ) (w : WalkRecord) (b : ℕ) (l : Landing) → l .table ≡ t → l .walk ≡ w
-      → ((0 ≡ b) × (l .answer ≡ gives made)) ⊎ ((l .answer ≡ stepOf g t w .answer) × (l .answer ≡ gives made → ⊥)) → Stood g t w b l
-  stood-none t w b l p q a = record {
-    count = 0;
-    most = omega arith;
-    made-all = rw (steps-none g t w);
-    table-is = rw (steps-none g t w) p;
-    walk-is = rw (steps-none g t w) q;
-    answer-is = rw (steps-none g t w) a;
-  }
-
-  stood-made : (t : List ℕ) (w : WalkRecord) (b : ℕ) (l : Landing) → stepOf g t w .answer ≡ gives made → Stood g (stepOf g t w .table) (stepOf g t w .walk) b l → Stood g t w (suc b) l
-  stood-made t w b l e s = record {
-    count = suc (s .count);
-    most = let h = s .most in omega arith;
-    made-all = rw more (s .made-all);
-    table-is = rw more (s .table-is);
-    walk-is = rw more (s .walk-is);
-    answer-is = rw more (⊎-elim (λ p. inl (ap suc (p .0), p .1)) inr (s .answer-is));
-  }
-    where
-      more : stepsOf g (suc (s .count)) t w ≡ stepsOf g (s .count) (stepOf g t w .table) (stepOf g t w .walk)
-      more = steps-first g (s .count) t w (λ m q. q) (λ ne q. absurd (ne e))
-
-  pub steps-stand : (b : ℕ) (t : List ℕ) (w : WalkRecord) → Stood g t w b (stepsOf g b t w)
-  steps-stand zero t w = rw (steps-none g t w) (stood-none t w 0 (leaves t w (gives made)) refl refl (inl (refl, refl)))
-  steps-stand (suc b) t w =
-      steps-first g b t w (λ e q. rw q (stood-made t w b _ e (steps-stand b (stepOf g t w .table) (stepOf g t w .walk)))) (λ ne q. rw q (stops ne (step-unmade g t w ne)))
-    where
-      stops : (stepOf g t w .answer ≡ gives made → ⊥) → stepOf g t w ≡ leaves t w (stepOf g t w .answer) → Stood g t w (suc b) (stepOf g t w)
-      stops ne e = rw e (stood-none t w (suc b) (leaves t w (stepOf g t w .answer)) refl refl (inr (refl, ne)))
-
-  pub run-stands : (t : List ℕ) (w : WalkRecord) (b : ℕ) → Numbered (g .before) → refusal (g .before) ≡ 0 → impossible (capacityOf (g .words) (length t)) w (g .circuits) ≡ false
-      → Stood g t w b (runOf g t w b)
-  run-stands t w b n z e = rw (run-passed g t w b n z e) (steps-stand b t w)
-
-module _ (g : Ground) (t : List ℕ) (w : WalkRecord) (b n : ℕ) where
-  -- a step is refused, after k that were made
-  abbrev RefusedBelow : Type 0
-  RefusedBelow = (k : ℕ) × (k < b) × (stepsOf g k t w .answer ≡ gives made) × (stepOf g (stepsOf g k t w .table) (stepsOf g k t w .walk) .answer ≡ refuses n)
-
-  pub steps-refuse : (stepsOf g b t w .answer ≡ refuses n) ↔ RefusedBelow
-  steps-refuse = (λ e. into e (steps-stand g b t w), out)
-    where
-      into : stepsOf g b t w .answer ≡ refuses n → Stood g t w b (stepsOf g b t w) → RefusedBelow
-      into e s =
-          let below : s .count < b = let m = s .most in let k : ¬ (s .count ≡ b) = not-all in omega arith in
-          (s .count, below, s .made-all, ⊎-elim (λ p. absurd (not-all (p .0))) (λ p. sym (p .0) ∙ e) (s .answer-is))
-        where
-          not-all : s .count ≡ b → ⊥
-          not-all q = given-refused (sym (s .made-all) ∙ ap (λ (k : ℕ). stepsOf g k t w .answer) q ∙ e)
-
-      out : RefusedBelow → stepsOf g b t w .answer ≡ refuses n
-      out (k, h, m, e) =
-          let x : Landing = stepsOf g k t w in
-          let made-so-far = bundle-made g t w k b (omega arith) x refl m in
-          let refused-there = steps-stop g (x .table) (x .walk) (b - k) (omega arith) (stepOf g (x .table) (x .walk)) refl (λ d. given-refused (sym d ∙ e)) in
-          ap (λ (y : Landing). y .answer) (made-so-far ∙ refused-there) ∙ e

@@ -30,7 +30,8 @@ use Rattle.reach.specs.Reach.{Closed}
 use Rattle.reach.specs.Walked.{FlipsTo, Sound, Walked, starts, steps, runs, moves, Listing, Ends}
 use Rattle.reach.proofs.ReachLaws.{reach-kept, closed-start, closed-moved, closed-count, closed-new, closed-neighbours, closed-whole}
 use Rattle.reach.proofs.StepLaws.{room-for, seen-stands, unseen, possible-holds, step-passed, run-passed, try-done, try-flip, after-none, after-refused, store-known, store-full, store-new}
-use Rattle.reach.proofs.StepLaws.{start-facts, step-stops, done-end, steps-none, steps-first, steps-count, Stood, steps-stand}
+use Rattle.reach.proofs.StepLaws.{start-facts, step-stops, done-end}
+use Rattle.reach.proofs.RunLaws.{steps-none, steps-first, steps-count, Stood, steps-stand}
 
 -- ---- any walk
 

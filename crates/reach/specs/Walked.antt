@@ -1,7 +1,8 @@
 -- Demand 3: what is true of a table and a record that only one accepted start and the same walk's steps and runs have written.
 --
 --   FlipsTo g r z r′      the flip of r along circuit z gives r′
---   Sound g               what is asked of the flip and the test: a flip keeps the number of words, and an accepted list passes the first rules
+--   Keeps g               a flip keeps the number of words
+--   Sound g               what is asked of the flip and the test: that, and that an accepted list passes the first rules
 --   Walked g r₀ t w       the table t and the record w were written by an accepted start from r₀ and then by steps and runs alone;
 --                         in between the rows in use may have moved to any table that has room for them
 --   Listing g r₀ t w      the promise at any time:
@@ -26,9 +27,12 @@ use Rattle.reach.specs.Reach.{Flipping, Reach, Stands}
 abbrev pub FlipsTo : Ground → Flipping
 FlipsTo g r z r′ = g .flip r z ≡ gives r′
 
+abbrev pub Keeps : Ground → Type 0
+Keeps g = (r r′ : List ℕ) (z : ℕ) → length r ≡ g .words → FlipsTo g r z r′ → length r′ ≡ g .words
+
 pub record Sound (g : Ground) : Type 0 where
   pub numbered : Numbered (g .before)
-  pub keeps : (r r′ : List ℕ) (z : ℕ) → length r ≡ g .words → FlipsTo g r z r′ → length r′ ≡ g .words
+  pub keeps : Keeps g
   pub passes : (r : List ℕ) → g .test r ≡ gives tt → refusal (g .before) ≡ 0
 
 pub data Walked (g : Ground) (r₀ : List ℕ) : List ℕ → WalkRecord → Type 0 where

@@ -1,0 +1,5 @@
+pub mod ScanLaws
+pub mod ReadyLaws
+pub mod StepsLaws
+pub mod Promises
+pub mod Theorem

@@ -1,0 +1,83 @@
+-- What the public calls of this room answer and leave, for every input: the walk of the room `reach`, over the plane's test and flip.
+--
+--   plane l               the ground of a patch: the shots' rules, two words a row, the patch's circuits, its test and its flip
+--   readWalk w            the code's walk record
+--   readStarted, readStepped    the refusal number, or what each case of an answer says
+--   startLanding, stepLanding   all that a call leaves: from its answer, the record and the table
+--   afterStart, afterStep       the same, from what a call by value hands back
+--   startCallOf, stepCallOf, runCallOf    what `start`, `step` and `run` answer and leave
+--   impossibleOf, isMade  15, and whether a step was made, as the code asks for them
+--
+-- Source: document 01, "The walk".
+use mathlib.Core.Bool.{Bool, true, false}
+use mathlib.Core.List.{List}
+use Prim.Native.Nat.{ℕ}
+use lib.ListN.{length}
+use lib.IntN.{ℤ}
+use Rattle.algebra.specs.Answer.{Answer, gives, refuses}
+use Rattle.reach.specs.Walks.{Ground, WalkRecord, Reply, started, made, done, Landing, leaves, impossible, stepOf, runOf, startOf}
+use Rattle.shots.specs.Tests.{shotRules}
+use Rattle.circuits.specs.Numbered.{circuitsOf}
+use Rattle.triples.specs.Sizes.{wordCount}
+use Rattle.triples.specs.Sets.{wordsOf}
+use Rattle.triples.specs.declared.Triples.{Triples}
+use Rattle.lists.specs.Calls.{testOf}
+use Rattle.surfaces.specs.Calls.{flipOf}
+use Rattle.walks.specs.declared.Walk.{Walk}
+use Rattle.walks.specs.declared.AfterStart.{AfterStart}
+use Rattle.walks.specs.declared.AfterStep.{AfterStep}
+use Rattle.walks.specs.declared.Started.{Started}
+use Rattle.walks.specs.declared.Started.the-variants as B
+use Rattle.walks.specs.declared.Stepped.{Stepped}
+use Rattle.walks.specs.declared.Stepped.the-variants as S
+
+abbrev pub plane : List ℤ → Ground
+plane l = record { before = shotRules l; words = wordCount; circuits = length (circuitsOf l); test = testOf l; flip = flipOf l }
+
+-- ---- how the code's values are read
+
+abbrev pub readWalk : Walk → WalkRecord
+readWalk w = record { rows = w .rows; step = w .step }
+
+abbrev pub readStarted : Started → Answer Reply
+readStarted B.Started = gives started
+readStarted (B.Refused n) = refuses n
+
+abbrev pub readStepped : Stepped → Answer Reply
+readStepped S.Made = gives made
+readStepped S.Done = gives done
+readStepped (S.Refused n) = refuses n
+
+abbrev pub startLanding : Started → Walk → List ℕ → Landing
+startLanding a w t = leaves t (readWalk w) (readStarted a)
+
+abbrev pub stepLanding : Stepped → Walk → List ℕ → Landing
+stepLanding a w t = leaves t (readWalk w) (readStepped a)
+
+abbrev pub afterStart : List ℕ → AfterStart → Landing
+afterStart t r = startLanding (r .answer) (r .walk) t
+
+abbrev pub afterStep : List ℕ → AfterStep → Landing
+afterStep t r = stepLanding (r .answer) (r .walk) t
+
+-- ---- the calls
+
+abbrev pub startCallOf : List ℤ → Triples → List ℕ → Walk → Landing
+startCallOf l w t r = startOf (plane l) t (readWalk r) (wordsOf w)
+
+abbrev pub stepCallOf : List ℤ → List ℕ → Walk → Landing
+stepCallOf l t r = stepOf (plane l) t (readWalk r)
+
+abbrev pub runCallOf : List ℤ → List ℕ → Walk → ℕ → Landing
+runCallOf l t r b = runOf (plane l) t (readWalk r) b
+
+-- ---- what the code asks
+
+abbrev pub impossibleOf : ℕ → Walk → ℕ → Bool
+impossibleOf m w c = impossible m (readWalk w) c
+
+abbrev pub isMade : Answer Reply → Bool
+isMade (gives started) = false
+isMade (gives made) = true
+isMade (gives done) = false
+isMade (refuses n) = false

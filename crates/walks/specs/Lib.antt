@@ -1,0 +1,4 @@
+pub mod Calls
+pub mod Ready
+pub mod Lines
+pub mod Surfaces

@@ -1,0 +1,92 @@
+// The table of rows and the walk record over it.
+ghost use mathlib.Core.Path.{_≡_};
+ghost use Prim.Native.Nat.{_*_, _≤_, _<_};
+ghost use lib.ListN.{length};
+ghost use Rattle.reach.specs.Walks.{rowsMost, capacityOf, seenIn, storeOf};
+ghost use Rattle.circuits.specs.Sizes.{circuitsMost};
+ghost use Rattle.triples.specs.Sizes.{wordCount};
+ghost use Rattle.triples.specs.Sets.{wordsOf};
+ghost use Rattle.walks.specs.Calls.{readWalk, afterStep, impossibleOf};
+use super::AfterStep;
+use super::Stepped;
+use super::Walk;
+use triples::Triples;
+use triples::WORDS;
+use triples::rows;
+
+// A walk uses at most this many rows.
+pub const ROWS_MOST: usize = 65535;
+
+// The whole rows of a table of so many words, at most ROWS_MOST.
+pub fn capacity(words: usize) -> usize
+    ensures { λ r. ⌜ r ≡ capacityOf wordCount words ⌝ }
+{
+    let whole = words / WORDS;
+    if whole < ROWS_MOST {
+        return whole;
+    }
+    ROWS_MOST
+}
+
+// Whether no walk over so many rows and circuits has this record. The product is taken once the rows are known to be few.
+pub fn impossible(capacity: usize, walk: Walk, count: usize) -> bool
+    requires { ⌜ (capacity ≤ rowsMost) × (count ≤ circuitsMost) ⌝ }
+    ensures { λ r. ⌜ r ≡ impossibleOf capacity walk count ⌝ }
+{
+    let rows = walk.rows;
+    if rows == 0 {
+        return true;
+    }
+    if capacity < rows {
+        return true;
+    }
+    rows * count < walk.step
+}
+
+// Whether the list is one of the first rows: a result is most often near the last one, so from there down.
+fn seen(table: &[u64], rows: usize, list: Triples) -> bool
+    requires { ⌜ wordCount * rows ≤ length (now table) ⌝ }
+    ensures { λ r. ⌜ r ≡ seenIn wordCount (now (table .entry)) rows (wordsOf list) ⌝ }
+{
+    let mut p = rows;
+    while 0 < p {
+        p -= 1;
+        if rows::is_row(table, p, list) {
+            return true;
+        }
+    }
+    false
+}
+
+// A flip's result: a known one is passed over, a new one is written at the next row.
+pub fn place(table: &mut [u64], walk: Walk, list: Triples) -> AfterStep
+    requires { ⌜ (walk .rows ≤ capacityOf wordCount (length (now table))) × (walk .step < rowsMost * circuitsMost) ⌝ }
+    ensures { λ r. ⌜ afterStep (now (table .exit)) r ≡ storeOf wordCount (now (table .entry)) (readWalk walk) (wordsOf list) ⌝ }
+{
+    let rows = walk.rows;
+    let step = walk.step;
+    if seen(table, rows, list) {
+        return AfterStep {
+            answer: Stepped::Made,
+            walk: Walk {
+                rows,
+                step: step + 1,
+            },
+        };
+    }
+    if rows == capacity(table.len()) {
+        return AfterStep {
+            answer: Stepped::Refused(11),
+            walk,
+        };
+    }
+    let next = rows + 1;
+    rows::put_row(table, rows, list);
+    AfterStep {
+        answer: Stepped::Made,
+        walk: Walk {
+            rows: next,
+            step: step + 1,
+        },
+    }
+}
