@@ -1,11 +1,20 @@
 // What the library says of the square with its centre, document 01's example: border pairs, circuits and each circuit's sides; the placing surface, its
-// flips, and a list that is no triangulation.
+// flips, and all surfaces that flips reach from it; and a list that is no triangulation.
+ghost use Prim.Native.Nat.{_≤_};
+ghost use lib.ListN.{length};
 use circuits::Split;
 use libc::STDOUT_FILENO;
 use lists::Tested;
 use shots::Counted;
 use surfaces::Surface;
 use triples::Triples;
+use walks::Stepped;
+use walks::Walk;
+
+// There is room for so many surfaces.
+const ROWS: usize = 3;
+
+const TABLE_WORDS: usize = triples::WORDS * ROWS;
 
 fn print_refusal(number: u8) {
     io::write_all(STDOUT_FILENO, b"refused ");
@@ -98,6 +107,50 @@ fn print_flip(shots: &[i32], list: Triples, z: usize) {
     print_surface(surfaces::flip(shots, list, z));
 }
 
+fn print_rows(table: &[u64], rows: usize)
+    requires { ⌜ 6 ≤ length (now table) ⌝ }
+{
+    let mut p = 0;
+    while p < ROWS {
+        if p < rows {
+            io::write_all(STDOUT_FILENO, b"walk");
+            print_list(triples::rows::row_at(table, p));
+            io::write_all(STDOUT_FILENO, b"\n");
+        }
+        p += 1;
+    }
+}
+
+fn print_end(answer: Stepped, walk: Walk) {
+    match answer {
+        Stepped::Made => {
+            io::write_all(STDOUT_FILENO, b"made ");
+        }
+        Stepped::Done => {
+            io::write_all(STDOUT_FILENO, b"done ");
+        }
+        Stepped::Refused(n) => {
+            print_refusal(n);
+            io::write_all(STDOUT_FILENO, b" ");
+        }
+    }
+    io::print_decimal(STDOUT_FILENO, walk.rows as u64);
+    io::write_all(STDOUT_FILENO, b" ");
+    io::print_decimal(STDOUT_FILENO, walk.step as u64);
+    io::write_all(STDOUT_FILENO, b"\n");
+}
+
+// Rows and steps at the end: a run of more steps than there are answers done.
+fn print_walk(shots: &[i32], list: Triples) {
+    let mut table = [0u64; TABLE_WORDS];
+    let begun = walks::start_at(shots, list, &mut table, Walk { rows: 0, step: 0 });
+    let out = walks::run_at(shots, &mut table, begun.walk, 100);
+    let walk = out.walk;
+    print_rows(&table, walk.rows);
+    let answer = out.answer;
+    print_end(answer, walk);
+}
+
 fn print_flips(shots: &[i32]) {
     match surfaces::placing(shots) {
         Surface::List(list) => {
@@ -108,6 +161,7 @@ fn print_flips(shots: &[i32]) {
             print_flip(shots, list, 1);
             print_flip(shots, list, 2);
             print_flip(shots, list, 3);
+            print_walk(shots, list);
         }
         Surface::Refused(n) => print_refusal(n),
     }
