@@ -1,8 +1,8 @@
 -- Several steps, and runs: what they make of the steps one by one.
 --
---   steps-none, steps-over, steps-one, steps-add    no step, none left, one step, a + b steps
+--   steps-none, steps-one, steps-add    no step, one step, a + b steps
 --   bundle-made, bundle-stop         b steps, by what the first a of them answer
---   steps-made, steps-stop, steps-first    the same by what the first one answers, in two forms
+--   steps-stop, steps-first           the same by what the first one answers
 --   bundle-goes, steps-count         so many steps that are made leave what `Goes` says; they raise the step number by so many
 --   run-one                          a run of one step is a step
 --   Stood g t w b l                  of b steps so many were made, and stand: the table and the record of l are theirs, and its answer is the next step's
@@ -57,9 +57,6 @@ module _ (g : Ground) where
   unfolding stepsOf
   steps-none t w = refl
 
-  pub steps-over : (t : List ℕ) (w : WalkRecord) (b : ℕ) → b ≤ 0 → leaves t w (gives made) ≡ stepsOf g b t w
-  steps-over t w b h = sym (steps-none t w) ∙ ap (λ (n : ℕ). stepsOf g n t w) (let e : 0 ≡ b = omega arith in e)
-
   pub steps-one : (t : List ℕ) (w : WalkRecord) → stepsOf g 1 t w ≡ stepOf g t w
   unfolding stepsOf
   steps-one t w = go (made-dec (stepOf g t w .answer))
@@ -91,9 +88,6 @@ module _ (g : Ground) where
 
   -- by what the first answers
   module _ (t : List ℕ) (w : WalkRecord) (b : ℕ) (h : 0 < b) (l : Landing) (is : l ≡ stepOf g t w) where
-    pub steps-made : l .answer ≡ gives made → stepsOf g b t w ≡ stepsOf g (b - 1) (l .table) (l .walk)
-    steps-made e = bundle-made t w 1 b h l (is ∙ sym (steps-one t w)) e
-
     pub steps-stop : (l .answer ≡ gives made → ⊥) → stepsOf g b t w ≡ l
     steps-stop ne = bundle-stop t w 1 b h l (is ∙ sym (steps-one t w)) ne
 

@@ -39,12 +39,12 @@ pub fn is_row(table: &[u64], p: usize, list: Triples) -> bool
     requires { ⌜ wordCount * p + wordCount ≤ length (now table) ⌝ }
     ensures { λ r. ⌜ r ≡ sameList (rowOf wordCount (now (table .entry)) p) (wordsOf list) ⌝ }
 {
-    let mut i = 0;
-    while i < WORDS {
-        if table[WORDS * p + i] != sets::word(list, i) {
+    let mut j = 0;
+    while j < WORDS {
+        if table[WORDS * p + j] != sets::word(list, j) {
             return false;
         }
-        i += 1;
+        j += 1;
     }
     true
 }

@@ -3,11 +3,14 @@
 --   turn-facts           how many of the b steps that are left are along the row of step s, with c circuits
 --   flip-keeps           a flip of the plane keeps the number of words
 --   is-made, not-made    what the test of an answer says
---   OnRow c r t w b      if there is any, the next b steps are along the row r of the table t
---   going-fits, going-below, going-small    there is room for the rows; the step number is at most rows × circuits; that product is small
+--   later w k r          the record w after k steps, with r rows
+--   SoFar l t w b k u r  of the b steps from the table t and the record w, k are made; they leave the table u, as long as t, and r rows
+--   far-none, far-on     so it is before the first step, and again after some more that are made
+--   far-stop, far-all    what the b steps leave, where one of the next is not made, and where all are made
+--   going-fits, going-below, going-few, going-small    there is room for the rows; the step number is at most rows × circuits; the circuits are few; that product is small
 --   going-room           the row of a step that is left to make lies in the table
---   going-next           `Going` holds after steps that are made
---   row-next             so does `OnRow`, with one step less
+--   going-on             `Going` holds after steps that are made
+--   row-stays            where steps that are made and the next one are of one row, that one is still to make, along the row as it was
 --   run-steps            a run is its steps
 --   step-ends            a step is done at the end
 --   step-along           before the end it is what it makes of its row's flip
@@ -17,15 +20,16 @@ use mathlib.Core.Bool.{Bool, true, false, cond, _||_, true≢false, false≢true
 use mathlib.Core.List.{List}
 use Prim.Native.Nat.{ℕ, _+_, _-_, _*_, _/_, _%_, _≤_, _<_, min}
 use native.Mathlib.Omega.{arith}
-use native.Mathlib.Nat.{add-zero, le-min, min-le-left, min-le-right, mul-le-mul, div-add-mod', div-eq-of-lt, div-lt-iff-lt-mul, mul-add-div-right, mul-add-mod-self-right, mod-eq-of-lt, mod-lt}
+use native.Mathlib.Nat.{add-zero, le-antisymm, le-min, min-le-left, min-le-right, mul-le-mul, div-add-mod', div-eq-of-lt, div-lt-iff-lt-mul, mul-add-div-right, mod-lt}
 use lib.ListN.{length}
 use lib.IntN.{ℤ}
 use Rattle.algebra.specs.Answer.{Answer, gives, refuses, refusal}
 use Rattle.algebra.specs.Words.{rowOf}
-use Rattle.reach.specs.Walks.{WalkRecord, Reply, started, made, done, Landing, leaves, rowsMost, capacityOf, impossible, afterFlip, tryOf, stepOf, stepsOf, runOf}
+use Rattle.reach.specs.Walks.{WalkRecord, Reply, started, made, done, Landing, leaves, rowsMost, capacityOf, impossible, afterFlip, tryOf, stepOf, goOn, stepsOf, runOf}
 use Rattle.reach.specs.Walked.{Keeps}
 use Rattle.reach.proofs.ReachLaws.{tried-row}
 use Rattle.reach.proofs.StepLaws.{room-for, possible-facts, step-passed, run-passed, try-done, try-flip, after-refused, Goes, goes-possible}
+use Rattle.reach.proofs.RunLaws.{steps-none, steps-add, bundle-made, bundle-stop, bundle-goes}
 use Rattle.shots.specs.Tests.{refusalOf}
 use Rattle.shots.proofs.Patch.{patch-few}
 use Rattle.shots.proofs.Chains.{shots-numbered}
@@ -40,17 +44,13 @@ use Rattle.surfaces.proofs.CallChains.{flip-unlisted}
 use Rattle.walks.specs.Calls.{plane, isMade}
 use Rattle.walks.specs.Ready.{Going}
 
--- ---- the number of the next step
+-- ---- the number of a step
 
-module _ (s c : ℕ) (h : s % c + 1 < c) where
-  next-sum : s + 1 ≡ s / c * c + (s % c + 1)
-  next-sum = let e = div-add-mod' s c in omega arith
-
-  next-row : (s + 1) / c ≡ s / c
-  next-row = ap (λ (n : ℕ). n / c) next-sum ∙ mul-add-div-right (omega arith) (s / c) (s % c + 1) ∙ rw (div-eq-of-lt h) (add-zero (s / c))
-
-  next-circuit : (s + 1) % c ≡ s % c + 1
-  next-circuit = ap (λ (n : ℕ). n % c) next-sum ∙ mul-add-mod-self-right (s / c) c (s % c + 1) ∙ mod-eq-of-lt h
+-- so many steps on it is still the same row's
+row-on : (s c k : ℕ) → s % c + k < c → (s + k) / c ≡ s / c
+row-on s c k h =
+    ap (λ (n : ℕ). n / c) (let e = div-add-mod' s c in let q : s + k ≡ s / c * c + (s % c + k) = omega arith in q)
+    ∙ mul-add-div-right (omega arith) (s / c) (s % c + k) ∙ rw (div-eq-of-lt h) (add-zero (s / c))
 
 pub turn-facts : (s c b n : ℕ) → 0 < b → 0 < c → n ≡ min b (c - s % c) → (0 < n) × (n ≤ b) × (n ≤ c - s % c)
 turn-facts s c b n h k e =
@@ -88,10 +88,46 @@ is-made (refuses n) e = absurd (false≢true e)
 pub not-made : (a : Answer Reply) → isMade a ≡ false → a ≡ gives made → ⊥
 not-made a e q = true≢false (sym (ap isMade q) ∙ e)
 
--- ---- what holds between the steps of a run
+-- ---- the steps of a run so far
 
-abbrev pub OnRow : ℕ → List ℕ → List ℕ → WalkRecord → ℕ → Type 0
-OnRow c r t w b = 0 < b → (w .step < w .rows * c) × (b ≤ c - w .step % c) × (r ≡ rowOf wordCount t (w .step / c))
+abbrev pub later : WalkRecord → ℕ → ℕ → WalkRecord
+later w k r = record { rows = r; step = w .step + k }
+
+pub record SoFar (l : List ℤ) (t : List ℕ) (w : WalkRecord) (b k : ℕ) (u : List ℕ) (r : ℕ) : Type 0 where
+  pub most : k ≤ b
+  pub lasts : length u ≡ length t
+  pub steps : leaves u (later w k r) (gives made) ≡ stepsOf (plane l) k t w
+
+pub far-none : (l : List ℤ) (t : List ℕ) (w : WalkRecord) (b : ℕ) → SoFar l t w b 0 t (w .rows)
+far-none l t w b = record {
+  most = omega arith;
+  lasts = refl;
+  steps = ap (λ (s : ℕ). leaves t (record { rows = w .rows; step = s }) (gives made)) (add-zero (w .step)) ∙ sym (steps-none (plane l) t w);
+}
+
+module _ {l : List ℤ} {t : List ℕ} {w : WalkRecord} {b k : ℕ} {u : List ℕ} {r : ℕ} (far : SoFar l t w b k u r) where
+  far-goes : Goes (plane l) t w k (leaves u (later w k r) (gives made))
+  far-goes = bundle-goes (plane l) k t w (far .steps) refl
+
+  -- the next n leave x
+  module _ (n : ℕ) (h : k + n ≤ b) (x : Landing) (is : x ≡ stepsOf (plane l) n u (later w k r)) where
+    pub far-on : x .answer ≡ gives made → length (x .table) ≡ length u → SoFar l t w b (k + n) (x .table) (x .walk .rows)
+    far-on e kept = record {
+      most = h;
+      lasts = kept ∙ far .lasts;
+      steps = (λ i. leaves (x .table) (record { rows = x .walk .rows; step = sym (bundle-goes (plane l) (k + n) t w all e .counts) i }) (sym e i)) ∙ all;
+    }
+      where
+        all : x ≡ stepsOf (plane l) (k + n) t w
+        all = is ∙ ap (λ (m : Landing). goOn m (m .answer) (stepsOf (plane l) n (m .table) (m .walk))) (far .steps) ∙ sym (steps-add (plane l) k n t w)
+
+    pub far-stop : (x .answer ≡ gives made → ⊥) → x ≡ stepsOf (plane l) b t w
+    far-stop ne = sym (bundle-made (plane l) t w k b (far .most) _ (far .steps) refl ∙ bundle-stop (plane l) u (later w k r) n (b - k) (omega arith) x is ne)
+
+  pub far-all : b ≤ k → leaves u (later w b r) (gives made) ≡ stepsOf (plane l) b t w
+  far-all h = subst (λ (n : ℕ). leaves u (later w n r) (gives made) ≡ stepsOf (plane l) n t w) (le-antisymm (far .most) h) (far .steps)
+
+-- ---- what holds between them
 
 module _ {l : List ℤ} {plus minus held : List ℕ} {c : ℕ} {t : List ℕ} {w : WalkRecord} (going : Going l plus minus held c t w) where
   possible : (0 < w .rows) × (w .rows ≤ capacityOf wordCount (length t)) × (w .step ≤ w .rows * c)
@@ -103,10 +139,11 @@ module _ {l : List ℤ} {plus minus held : List ℕ} {c : ℕ} {t : List ℕ} {w
   pub going-below : w .step ≤ w .rows * c
   going-below = possible .2
 
+  pub going-few : c ≤ circuitsMost
+  going-few = let h = circuits-most l (patch-few l (going .patch) .1) in let e = going .circuits in omega arith
+
   pub going-small : w .rows * c ≤ rowsMost * circuitsMost
-  going-small =
-      mul-le-mul {n₁ = w .rows} {n₂ = rowsMost} (let m = min-le-right (length t / wordCount) rowsMost in let h = going-fits in omega arith)
-      (subst (λ (n : ℕ). n ≤ circuitsMost) (sym (going .circuits)) (circuits-most l (patch-few l (going .patch) .1)))
+  going-small = mul-le-mul {n₁ = w .rows} {n₂ = rowsMost} (let m = min-le-right (length t / wordCount) rowsMost in let h = going-fits in omega arith) going-few
 
   pub going-room : w .step < w .rows * c → wordCount * (w .step / c) + wordCount ≤ length t
   going-room h = room-for wordCount (length t) (w .step / c) (let i = tried-row (w .rows) (w .step) c h in let f = going-fits in omega arith)
@@ -114,34 +151,26 @@ module _ {l : List ℤ} {plus minus held : List ℕ} {c : ℕ} {t : List ℕ} {w
   possible-here : impossible (capacityOf wordCount (length t)) w (length (circuitsOf l)) ≡ false
   possible-here = subst (λ (n : ℕ). impossible (capacityOf wordCount (length t)) w n ≡ false) (going .circuits) (going .possible)
 
-  pub going-next : {n : ℕ} {x : Landing} → Goes (plane l) t w n x → Going l plus minus held c (x .table) (x .walk)
-  going-next {n} {x} goes = record {
+  pub going-on : {b k : ℕ} {u : List ℕ} {r : ℕ} → SoFar l t w b k u r → Going l plus minus held c u (later w k r)
+  going-on {b} {k} {u} {r} far = record {
     patch = going .patch;
     ready = going .ready;
     circuits = going .circuits;
-    possible = subst (λ (n : ℕ). impossible (capacityOf wordCount (length (x .table))) (x .walk) n ≡ false) (sym (going .circuits)) (goes-possible goes possible-here);
+    possible = subst (λ (n : ℕ). impossible (capacityOf wordCount (length u)) (later w k r) n ≡ false) (sym (going .circuits)) (goes-possible (far-goes far) possible-here);
   }
 
-  pub row-next : {x : Landing} (r : List ℕ) (b : ℕ) → 0 < b → OnRow c r t w b → Goes (plane l) t w 1 x → OnRow c r (x .table) (x .walk) (b - 1)
-  row-next {x} r b h on goes more = (ahead, turns, row)
+  pub row-stays : {b k : ℕ} {u : List ℕ} {r : ℕ} → SoFar l t w b k u r → w .step < w .rows * c → w .step % c + k < c
+      → (w .step + k < r * c) × (rowOf wordCount u ((w .step + k) / c) ≡ rowOf wordCount t (w .step / c))
+  row-stays {b} {k} {u} {r} far h i = (
+    div-lt-iff-lt-mul {k = c} {x = w .step + k} {y = r} (omega arith) .0 (let e = row-is in let j = in-row in let g = far-goes far .grows in omega arith),
+    ap (rowOf wordCount u) row-is ∙ far-goes far .stay (flip-keeps l) (w .step / c) in-row,
+  )
     where
       in-row : w .step / c < w .rows
-      in-row = tried-row (w .rows) (w .step) c (on h .0)
+      in-row = tried-row (w .rows) (w .step) c h
 
-      left : w .step % c + 1 < c
-      left = let e = on h .1 in omega arith
-
-      row-is : x .walk .step / c ≡ w .step / c
-      row-is = ap (λ (n : ℕ). n / c) (goes .counts) ∙ next-row (w .step) c left
-
-      ahead : x .walk .step < x .walk .rows * c
-      ahead = div-lt-iff-lt-mul {k = c} {x = x .walk .step} {y = x .walk .rows} (let e = left in omega arith) .0 (let e = row-is in let i = in-row in let g = goes .grows in omega arith)
-
-      turns : b - 1 ≤ c - x .walk .step % c
-      turns = let e = on h .1 in let f = ap (λ (n : ℕ). n % c) (goes .counts) ∙ next-circuit (w .step) c left in omega arith
-
-      row : r ≡ rowOf wordCount (x .table) (x .walk .step / c)
-      row = on h .2 ∙ sym (goes .stay (flip-keeps l) (w .step / c) in-row) ∙ ap (rowOf wordCount (x .table)) (sym row-is)
+      row-is : (w .step + k) / c ≡ w .step / c
+      row-is = row-on (w .step) c k i
 
   -- ---- a run and a step, which the first rules let pass
 

@@ -81,20 +81,27 @@ fn along(
     requires { ⌜ Going (now shots) (now plus) (now minus) (now held) count (now table) (readWalk walk) × (walk .step < walk .rows * count) × (b ≤ count - walk .step % count) × (wordsOf row ≡ rowOf wordCount (now table) (walk .step / count)) × (listRefusalOf (now shots) (wordsOf row) ≡ 0) ⌝ }
     ensures { λ r. ⌜ afterStep (now (table .exit)) r ≡ stepsOf (plane (now (shots .entry))) b (now (table .entry)) (readWalk walk) ⌝ }
 {
-    let mut w = walk;
-    let mut left = b;
-    while 0 < left {
-        let out = one(shots, plus, minus, held, count, table, w, row);
+    let mut rows = walk.rows;
+    let mut k = 0;
+    while k < b {
+        let now = Walk {
+            rows,
+            step: walk.step + k,
+        };
+        let out = one(shots, plus, minus, held, count, table, now, row);
         let answer = out.answer;
         if !made(answer) {
             return out;
         }
-        w = out.walk;
-        left -= 1;
+        rows = out.walk.rows;
+        k += 1;
     }
     AfterStep {
         answer: Stepped::Made,
-        walk: w,
+        walk: Walk {
+            rows,
+            step: walk.step + b,
+        },
     }
 }
 
@@ -122,34 +129,41 @@ pub fn several(
     requires { ⌜ Going (now shots) (now plus) (now minus) (now held) count (now table) (readWalk walk) ⌝ }
     ensures { λ r. ⌜ afterStep (now (table .exit)) r ≡ stepsOf (plane (now (shots .entry))) b (now (table .entry)) (readWalk walk) ⌝ }
 {
-    let mut w = walk;
-    let mut left = b;
-    while 0 < left {
-        if w.step == w.rows * count {
+    let mut rows = walk.rows;
+    let mut k = 0;
+    while k < b {
+        let now = Walk {
+            rows,
+            step: walk.step + k,
+        };
+        if now.step == rows * count {
             return AfterStep {
                 answer: Stepped::Done,
-                walk: w,
+                walk: now,
             };
         }
-        let row = rows::row_at(table, w.step / count);
+        let row = rows::row_at(table, now.step / count);
         let number = core::refusal(shots, held, count, row);
         if number != 0 {
             return AfterStep {
                 answer: Stepped::Refused(number),
-                walk: w,
+                walk: now,
             };
         }
-        let turn = least(left, count - w.step % count);
-        let out = along(shots, plus, minus, held, count, table, w, turn, row);
+        let turn = least(b - k, count - now.step % count);
+        let out = along(shots, plus, minus, held, count, table, now, turn, row);
         let answer = out.answer;
         if !made(answer) {
             return out;
         }
-        w = out.walk;
-        left -= turn;
+        rows = out.walk.rows;
+        k += turn;
     }
     AfterStep {
         answer: Stepped::Made,
-        walk: w,
+        walk: Walk {
+            rows,
+            step: walk.step + b,
+        },
     }
 }

@@ -2,7 +2,8 @@
 use mathlib.Core.Path.{_≡_, sym, _∙_, refl}
 use mathlib.Core.Bool.{Bool, true}
 use mathlib.Core.List.{List}
-use Prim.Native.Nat.{ℕ, _-_, _≤_}
+use Prim.Native.Nat.{ℕ, _-_, _≤_, _<_}
+use native.Mathlib.Omega.{arith}
 use lib.Dec.{eqb}
 use lib.ListN.{getD}
 use borrow.Author.Needs.{needs}
@@ -18,19 +19,22 @@ use Rattle.triples.specs.Sets.{wordsOf}
 use Rattle.triples.proofs.rows.is_row.Statement.{statement}
 use Rattle.triples.proofs.rows.is_row.Tie as tie
 
--- the two words at i are the same
+-- the two words at a place are the same
 abbrev same : List ℕ → List ℕ → ℕ → Bool
 same v w i = eqb (getD v i 0) (getD w i 0)
 
 abbrev Inv-loop : tie.InvT-loop
-Inv-loop table p list i₀ i = (i ≤ wordCount) × (every i (same (rowOf wordCount table p) (wordsOf list)) ≡ true)
+Inv-loop table p list j₀ j = (j ≤ wordCount) × (every j (same (rowOf wordCount table p) (wordsOf list)) ≡ true)
 
 abbrev μ-loop : tie.MeasureT-loop
-μ-loop table p list i₀ i = wordCount - i
+μ-loop table p list j₀ j = wordCount - j
 
 by-words : (s : tie.Start Inv-loop μ-loop)
     → let v = rowOf wordCount (s .args .table .now) (s .args .p) in every wordCount (same v (wordsOf (s .args .list))) ≡ sameList v (wordsOf (s .args .list))
 by-words s = same-places wordCount (rowOf wordCount (s .args .table .now) (s .args .p)) (wordsOf (s .args .list)) (row-length wordCount (s .args .table .now) (s .args .p)) refl
+
+in-row : (l : tie.In-loop Inv-loop μ-loop) → l .before .loop .j < wordCount
+in-row l = omega (arith, l .loop-test .taken)
 
 loop-holds : tie.Need-loop-holds Inv-loop μ-loop
 loop-holds c = (search needs, every-none _)
@@ -39,8 +43,8 @@ returns : tie.Need-returns Inv-loop μ-loop
 returns c =
     let l = c .before .before .before in
     let s = l .before .before .before in
-    every-broken _ _ _ (l .loop-test .taken)
-    (λ k. eqb (sym (row-at wordCount (s .args .table .now) (s .args .p) (l .before .loop .i) (l .loop-test .taken)) k) (c .before .word .ensures k))
+    every-broken _ _ _ (in-row l)
+    (λ k. eqb (sym (row-at wordCount (s .args .table .now) (s .args .p) (l .before .loop .j) (in-row l)) k) (c .before .word .ensures k))
     (ne-eqb _ _ (c .if1 .taken)) ∙ by-words s
 
 loop-again : tie.Need-loop-again Inv-loop μ-loop
@@ -49,7 +53,7 @@ loop-again c =
     let s = l .before .before .before in (
       search needs,
       every-on _ _ (l .before .loop .inv .1)
-          (λ k. eqb (sym (row-at wordCount (s .args .table .now) (s .args .p) (l .before .loop .i) (l .loop-test .taken)) k) (c .before .word .ensures k))
+          (λ k. eqb (sym (row-at wordCount (s .args .table .now) (s .args .p) (l .before .loop .j) (in-row l)) k) (c .before .word .ensures k))
           (eq-eqb _ _ (c .if1 .left)),
     )
 

@@ -1,39 +1,61 @@
--- `walks::steps::along` meets its contract: what is left to make of the steps is what was asked, and the next of them is along the row.
-use mathlib.Core.Path.{_≡_, refl, sym, _∙_}
+-- `walks::steps::along` meets its contract: so many of the steps are made so far, and the next one is along the row.
+use mathlib.Core.Path.{_≡_, sym, _∙_}
 use mathlib.Core.Bool.{Bool}
 use mathlib.Core.List.{List}
+use Prim.Native.Nat.{ℕ, _+_, _-_, _*_, _≤_}
+use native.Mathlib.Omega.{arith}
 use lib.ListN.{length}
 use lib.IntN.{ℤ}
 use borrow.Author.Needs.{needs}
 use borrow.Author.Tests.{not-true, not-false}
-use Rattle.reach.specs.Walks.{Landing, stepsOf}
-use Rattle.reach.proofs.StepLaws.{step-goes}
-use Rattle.reach.proofs.RunLaws.{steps-over, steps-made, steps-stop}
-use Rattle.triples.specs.Sets.{wordsOf}
+use Rattle.reach.specs.Walks.{WalkRecord, Landing, rowsMost, stepsOf}
+use Rattle.reach.proofs.RunLaws.{steps-one}
+use Rattle.circuits.specs.Sizes.{circuitsMost}
 use Rattle.walks.specs.Calls.{plane, readWalk, afterStep, isMade}
-use Rattle.walks.specs.Ready.{Going}
-use Rattle.walks.proofs.StepsLaws.{is-made, not-made, OnRow, going-next, row-next}
+use Rattle.walks.proofs.StepsLaws.{is-made, not-made, later, SoFar, far-none, far-on, far-stop, far-all, going-below, going-few, going-small, going-on, row-stays}
 use Rattle.walks.proofs.steps.along.Statement.{statement}
 use Rattle.walks.proofs.steps.along.Tie as tie
 
 abbrev Inv-loop : tie.InvT-loop
-Inv-loop shots plus minus held count table₀ b row w₀ left₀ table w left =
-    (stepsOf (plane shots) left table (readWalk w) ≡ stepsOf (plane shots) left₀ table₀ (readWalk w₀))
-    × (length table ≡ length table₀)
-    × Going shots plus minus held count table (readWalk w)
-    × OnRow count (wordsOf row) table (readWalk w) left
+Inv-loop shots plus minus held count table₀ walk b row rows₀ k₀ table rows k = SoFar shots table₀ (readWalk walk) b k table rows
 
 abbrev μ-loop : tie.MeasureT-loop
-μ-loop shots plus minus held count table₀ b row w₀ left₀ table w left = left
+μ-loop shots plus minus held count table₀ walk b row rows₀ k₀ table rows k = b - k
 
 loop-holds : tie.Need-loop-holds Inv-loop μ-loop
-loop-holds c = let p = c .before .before .before .before .pre in (refl, refl, p .0, λ h. (p .1, p .2, p .3))
+loop-holds c = far-none _ _ _ _
+
+-- between the steps
+module _ (c : tie.At-loop Inv-loop μ-loop) where
+  abbrev start : tie.Start Inv-loop μ-loop
+  start = c .before .before .before .before .before
+
+  abbrev l : List ℤ
+  l = start .args .shots .now
+
+  abbrev t : List ℕ
+  t = c .loop .table
+
+  abbrev w : WalkRecord
+  w = later (readWalk (start .args .walk)) (c .loop .k) (c .loop .rows)
+
+  -- the sums fit: the first step's number is small, and so is that of the steps
+  small : start .args .walk .step ≤ rowsMost * circuitsMost
+  small = let h = going-below (start .pre .0) in let f = going-small (start .pre .0) in omega arith
+
+  few : start .args .b ≤ circuitsMost
+  few = let h = going-few (start .pre .0) in let f = start .pre .2 in omega arith
+
+add-t16 : tie.Need-add-t16 Inv-loop μ-loop
+add-t16 c = let a = c .before .before in let h = small a in let f = few a in let m = a .loop .inv .most in record { fits = omega arith }
 
 one-requires : tie.Need-one-requires Inv-loop μ-loop
 one-requires c κs =
-    let i = c .before .before .loop .inv in
-    let r = i .3 (c .before .loop-test .taken) in
-    (i .2, r .0, r .2, c .before .before .before .before .before .before .before .pre .4)
+    let k = c .before .before in
+    let far = k .before .loop .inv in
+    let p = start (k .before) .pre in
+    let r = row-stays (p .0) far (p .1) (let h = k .loop-test .taken in let f = p .2 in omega arith) in
+    (going-on (p .0) far, r .0, p .3 ∙ sym (r .1), p .4)
 
 -- after a step
 module _ (c : tie.After-made Inv-loop μ-loop) where
@@ -41,45 +63,43 @@ module _ (c : tie.After-made Inv-loop μ-loop) where
   called = c .before .before .before
 
   abbrev round : tie.In-loop Inv-loop μ-loop
-  round = called .before .before
+  round = called .before .before .before
 
-  abbrev l : List ℤ
-  l = round .before .before .before .before .before .before .args .shots .now
+  abbrev here : tie.At-loop Inv-loop μ-loop
+  here = round .before
 
   abbrev x : Landing
   x = afterStep (called .one .last .1 .1 .1 .1 .1 .0) (called .one .result)
 
-  answered : {b : Bool} → c .made .result ≡ b → isMade (x .answer) ≡ b
+  next : x ≡ stepsOf (plane (l here)) 1 (t here) (w here)
+  next = called .one .ensures ∙ sym (steps-one (plane (l here)) (t here) (w here))
+
+  answered : {v : Bool} → c .made .result ≡ v → isMade (x .answer) ≡ v
   answered e = sym (c .made .ensures) ∙ e
 
-  kept : length (x .table) ≡ length (round .before .loop .table)
+  kept : length (x .table) ≡ length (t here)
   kept = called .one .kept .1 .1 .1 .1 .1 .0
 
+  more : here .loop .k + 1 ≤ start here .args .b
+  more = let h = round .loop-test .taken in omega arith
+
 same-length : tie.Need-same-length Inv-loop μ-loop
-same-length c = let p = c .before in kept p ∙ round p .before .loop .inv .1
+same-length c = let p = c .before in kept p ∙ here p .loop .inv .lasts
 
 returns : tie.Need-returns Inv-loop μ-loop
-returns c =
-    let p = c .before in
-    let k = round p in
-    sym (steps-stop (plane (l p)) _ _ _ (k .loop-test .taken) (x p) (called p .one .ensures) (not-made _ (answered p (not-true _ (c .if1 .taken))))) ∙ k .before .loop .inv .0
+returns c = let p = c .before in far-stop (here p .loop .inv) 1 (more p) (x p) (next p) (not-made _ (answered p (not-true _ (c .if1 .taken))))
+
+add-k : tie.Need-add-k Inv-loop μ-loop
+add-k c = let p = c .before in let h = more p in let f = few (here p) in record { fits = omega arith }
 
 loop-again : tie.Need-loop-again Inv-loop μ-loop
-loop-again c =
-    let p = c .before .before in
-    let k = round p in
-    let i = k .before .loop .inv in
-    let h = k .loop-test .taken in
-    let e = is-made (x p .answer) (answered p (not-false _ (c .before .if1 .left))) in
-    let g = step-goes (plane (l p)) _ _ (called p .one .ensures) e in (
-      sym (steps-made (plane (l p)) _ _ _ h (x p) (called p .one .ensures) e) ∙ i .0,
-      kept p ∙ i .1,
-      going-next (i .2) g,
-      row-next (i .2) _ _ h (i .3) g,
-    )
+loop-again c = let p = c .before in far-on (here p .loop .inv) 1 (more p) (x p) (next p) (is-made (x p .answer) (answered p (not-false _ (c .if1 .left)))) (kept p)
+
+add-t21 : tie.Need-add-t21 Inv-loop μ-loop
+add-t21 c = let a = c .before .before in let h = small a in let f = few a in record { fits = omega arith }
 
 returns-2 : tie.Need-returns-2 Inv-loop μ-loop
-returns-2 c = steps-over _ _ _ _ (c .loop-test .left) ∙ c .before .loop .inv .0
+returns-2 c = far-all (c .before .before .loop .inv) (c .before .loop-test .left)
 
 pub along-spec : {M : Type 1} → statement M
 along-spec =
@@ -88,12 +108,14 @@ along-spec =
     Inv-loop
     μ-loop
     loop-holds
+    add-t16
     one-requires
     (λ c κs. search needs)
     same-length
     returns
-    (λ c. search needs)
+    add-k
     (λ c. search needs)
     loop-again
+    add-t21
     (λ c. search needs)
     returns-2)

@@ -1,40 +1,42 @@
--- `walks::steps::several` meets its contract: what is left to make of the steps is what was asked, row by row.
-use mathlib.Core.Path.{_≡_, refl, sym, _∙_}
+-- `walks::steps::several` meets its contract: so many of the steps are made so far, row by row.
+use mathlib.Core.Path.{_≡_, sym, _∙_}
 use mathlib.Core.Bool.{Bool}
 use mathlib.Core.List.{List}
-use Prim.Native.Nat.{ℕ, _-_, _*_, _%_, _≤_, _<_}
+use Prim.Native.Nat.{ℕ, _+_, _-_, _*_, _%_, _≤_, _<_}
 use native.Mathlib.Omega.{arith}
-use native.Mathlib.Nat.{mod-lt}
+use native.Mathlib.Nat.{le-of-lt, mod-lt}
 use lib.ListN.{length}
 use lib.IntN.{ℤ}
 use borrow.Author.Needs.{needs}
 use borrow.Author.Tests.{not-true, not-false}
+use Rattle.algebra.specs.Answer.{gives}
 use Rattle.algebra.proofs.AnswerLaws.{given-refused}
-use Rattle.reach.specs.Walks.{WalkRecord, Landing, stepsOf}
+use Rattle.reach.specs.Walks.{WalkRecord, made, Landing, rowsMost, stepOf, stepsOf}
 use Rattle.reach.proofs.ReachLaws.{tried-circuit}
 use Rattle.reach.proofs.StepLaws.{done-made}
-use Rattle.reach.proofs.RunLaws.{steps-over, bundle-made, bundle-stop, steps-stop, bundle-goes}
+use Rattle.reach.proofs.RunLaws.{steps-one}
 use Rattle.shots.proofs.Patch.{patch-few}
+use Rattle.circuits.specs.Sizes.{circuitsMost}
 use Rattle.walks.specs.Calls.{plane, readWalk, afterStep, isMade}
 use Rattle.walks.specs.Ready.{Going}
-use Rattle.walks.proofs.StepsLaws.{turn-facts, is-made, not-made, going-below, going-small, going-room, going-next, step-ends, step-unlisted}
+use Rattle.walks.proofs.StepsLaws.{turn-facts, is-made, not-made, later, SoFar, far-none, far-on, far-stop, far-all}
+use Rattle.walks.proofs.StepsLaws.{going-below, going-small, going-room, going-on, step-ends, step-unlisted}
 use Rattle.walks.proofs.steps.several.Statement.{statement}
 use Rattle.walks.proofs.steps.several.Tie as tie
 
 abbrev Inv-loop : tie.InvT-loop
-Inv-loop shots plus minus held count table₀ b w₀ left₀ table w left =
-    (stepsOf (plane shots) left table (readWalk w) ≡ stepsOf (plane shots) left₀ table₀ (readWalk w₀)) × (length table ≡ length table₀) × Going shots plus minus held count table (readWalk w)
+Inv-loop shots plus minus held count table₀ walk b rows₀ k₀ table rows k = SoFar shots table₀ (readWalk walk) b k table rows
 
 abbrev μ-loop : tie.MeasureT-loop
-μ-loop shots plus minus held count table₀ b w₀ left₀ table w left = left
+μ-loop shots plus minus held count table₀ walk b rows₀ k₀ table rows k = b - k
 
 loop-holds : tie.Need-loop-holds Inv-loop μ-loop
-loop-holds c = (refl, refl, c .before .before .before .before .pre)
+loop-holds c = far-none _ _ _ _
 
--- a round begins
-module _ (c : tie.In-loop Inv-loop μ-loop) where
+-- between the rounds
+module _ (c : tie.At-loop Inv-loop μ-loop) where
   abbrev start : tie.Start Inv-loop μ-loop
-  start = c .before .before .before .before .before .before
+  start = c .before .before .before .before .before
 
   abbrev l : List ℤ
   l = start .args .shots .now
@@ -42,51 +44,64 @@ module _ (c : tie.In-loop Inv-loop μ-loop) where
   abbrev count : ℕ
   count = start .args .count
 
+  abbrev b : ℕ
+  b = start .args .b
+
+  abbrev k : ℕ
+  k = c .loop .k
+
   abbrev t : List ℕ
-  t = c .before .loop .table
+  t = c .loop .table
 
   abbrev w : WalkRecord
-  w = readWalk (c .before .loop .w)
-
-  abbrev left : ℕ
-  left = c .before .loop .left
+  w = later (readWalk (start .args .walk)) k (c .loop .rows)
 
   abbrev asked : Landing
-  asked = stepsOf (plane l) (start .args .b) (start .args .table .now) (readWalk (start .args .walk))
-
-  rest : stepsOf (plane l) left t w ≡ asked
-  rest = c .before .loop .inv .0
-
-  lasting : length t ≡ length (start .args .table .now)
-  lasting = c .before .loop .inv .1
+  asked = stepsOf (plane l) b (start .args .table .now) (readWalk (start .args .walk))
 
   going : Going l (start .args .plus .now) (start .args .minus .now) (start .args .held .now) count t w
-  going = c .before .loop .inv .2
+  going = going-on (start .pre) (c .loop .inv)
+
+  small : w .rows * count ≤ rowsMost * circuitsMost
+  small = going-small going
+
+  step-small : w .step ≤ rowsMost * circuitsMost
+  step-small = let f = going-below going in let h = small in omega arith
+
+-- a step that is not made ends the run
+stops : (c : tie.In-loop Inv-loop μ-loop) {x : Landing} → let a = c .before in stepOf (plane (l a)) (t a) (w a) ≡ x → (x .answer ≡ gives made → ⊥) → x ≡ asked a
+stops c {x} e ne =
+    let a = c .before in
+    far-stop (a .loop .inv) 1 (let h = c .loop-test .taken in omega arith) x (sym (steps-one (plane (l a)) (t a) (w a) ∙ e)) ne
+
+add-if1 : tie.Need-add-if1 Inv-loop μ-loop
+add-if1 c = let f = step-small (c .before .before) in record { fits = omega arith }
 
 mul-if1 : tie.Need-mul-if1 Inv-loop μ-loop
-mul-if1 c = let f = going-small (going (c .before)) in record { fits = omega arith }
+mul-if1 c = let f = small (c .before .before) in record { fits = omega arith }
 
 returns : tie.Need-returns Inv-loop μ-loop
-returns c =
-    let k = c .before .before .before in
-    sym (steps-stop (plane (l k)) _ _ _ (k .loop-test .taken) _ (sym (step-ends (going k) (c .if1 .taken))) (λ e. done-made e)) ∙ rest k
+returns c = let r = c .before .before .before in stops r (step-ends (going (r .before)) (c .if1 .taken)) (λ e. done-made e)
 
 -- it is not the end
 module _ (c : tie.Else1 Inv-loop μ-loop) where
   abbrev round : tie.In-loop Inv-loop μ-loop
   round = c .before .before .before
 
-  ahead : w round .step < w round .rows * count round
-  ahead = let f = going-below (going round) in let n = c .if1 .left in omega arith
+  abbrev here : tie.At-loop Inv-loop μ-loop
+  here = round .before
 
-  some : 0 < count round
-  some = tried-circuit (w round .rows) (w round .step) (count round) ahead
+  ahead : w here .step < w here .rows * count here
+  ahead = let f = going-below (going here) in let n = c .if1 .left in omega arith
+
+  some : 0 < count here
+  some = tried-circuit (w here .rows) (w here .step) (count here) ahead
 
 div-row-at : tie.Need-div-row-at Inv-loop μ-loop
 div-row-at c = some (c .before .before)
 
 row-at-requires : tie.Need-row-at-requires Inv-loop μ-loop
-row-at-requires c κs = let d = c .before .before in going-room (going (round d)) (ahead d)
+row-at-requires c κs = let d = c .before .before in going-room (going (here d)) (ahead d)
 
 -- its row was read
 abbrev ahead-of : tie.After-row-at Inv-loop μ-loop → tie.Else1 Inv-loop μ-loop
@@ -94,7 +109,7 @@ ahead-of c = c .before .before .before
 
 refusal-requires : tie.Need-refusal-requires Inv-loop μ-loop
 refusal-requires c κs =
-    let g = going (round (ahead-of c)) in
+    let g = going (here (ahead-of c)) in
     let h = g .ready .held-room in
     (patch-few _ (g .patch) .1, g .circuits, omega arith, g .ready .tests)
 
@@ -102,38 +117,35 @@ returns-2 : tie.Need-returns-2 Inv-loop μ-loop
 returns-2 c =
     let r = c .before .before in
     let d = ahead-of r in
-    let k = round d in
-    sym
-    (steps-stop (plane (l k)) _ _ _ (k .loop-test .taken) _
-    (sym (step-unlisted (going k) _ (ahead d) (r .row-at .ensures) (c .before .refusal .ensures) (c .if2 .taken)))
-    (λ e. given-refused (sym e)))
-    ∙ rest k
+    stops (round d) (step-unlisted (going (here d)) _ (ahead d) (r .row-at .ensures) (c .before .refusal .ensures) (c .if2 .taken)) (λ e. given-refused (sym e))
 
 rem-least : tie.Need-rem-least Inv-loop μ-loop
 rem-least c = some (ahead-of (c .before .before .before))
 
-sub-least : tie.Need-sub-least Inv-loop μ-loop
-sub-least c = let d = ahead-of (c .before .before .before) in let h = mod-lt (w (round d) .step) (some d) in omega arith
+sub-least-2 : tie.Need-sub-least-2 Inv-loop μ-loop
+sub-least-2 c = le-of-lt (mod-lt _ (some (ahead-of (c .before .before .before))))
 
 -- it is good for so many steps
 module _ (c : tie.After-least Inv-loop μ-loop) where
   abbrev row : tie.After-row-at Inv-loop μ-loop
   row = c .before .before .before .before
 
-  abbrev here : tie.In-loop Inv-loop μ-loop
-  here = round (ahead-of row)
+  abbrev then : tie.At-loop Inv-loop μ-loop
+  then = here (ahead-of row)
 
   abbrev turn : ℕ
   turn = c .least .result
 
-  turns : (0 < turn) × (turn ≤ left here) × (turn ≤ count here - w here .step % count here)
-  turns = turn-facts (w here .step) (count here) (left here) turn (here .loop-test .taken) (some (ahead-of row)) (c .least .ensures)
+  turns : (0 < turn) × (turn ≤ b then - k then) × (turn ≤ count then - w then .step % count then)
+  turns =
+      let h = round (ahead-of row) .loop-test .taken in
+      turn-facts (w then .step) (count then) (b then - k then) turn (omega arith) (some (ahead-of row)) (c .least .ensures)
 
 along-requires : tie.Need-along-requires Inv-loop μ-loop
 along-requires c κs =
     let p = c .before in
     let r = row p in
-    (going (here p), ahead (ahead-of r), turns p .2, r .row-at .ensures, sym (p .before .before .before .refusal .ensures) ∙ p .before .before .if2 .left)
+    (going (then p), ahead (ahead-of r), turns p .2, r .row-at .ensures, sym (p .before .before .before .refusal .ensures) ∙ p .before .before .if2 .left)
 
 -- after the steps along it
 module _ (c : tie.After-made Inv-loop μ-loop) where
@@ -143,45 +155,42 @@ module _ (c : tie.After-made Inv-loop μ-loop) where
   abbrev least : tie.After-least Inv-loop μ-loop
   least = called .before .before
 
-  abbrev then : tie.In-loop Inv-loop μ-loop
-  then = here least
-
   abbrev x : Landing
   x = afterStep (called .along .last .1 .1 .1 .1 .1 .0) (called .along .result)
 
-  answered : {b : Bool} → c .made .result ≡ b → isMade (x .answer) ≡ b
+  answered : {v : Bool} → c .made .result ≡ v → isMade (x .answer) ≡ v
   answered e = sym (c .made .ensures) ∙ e
 
-  kept : length (x .table) ≡ length (start then .args .table .now)
-  kept = called .along .kept .1 .1 .1 .1 .1 .0 ∙ lasting then
+  kept : length (x .table) ≡ length (t (then least))
+  kept = called .along .kept .1 .1 .1 .1 .1 .0
+
+  more : k (then least) + turn least ≤ b (then least)
+  more = let f = turns least .1 in let m = then least .loop .inv .most in omega arith
 
 same-length-3 : tie.Need-same-length-3 Inv-loop μ-loop
-same-length-3 c = kept (c .before)
+same-length-3 c = let p = c .before in kept p ∙ then (least p) .loop .inv .lasts
 
 returns-3 : tie.Need-returns-3 Inv-loop μ-loop
 returns-3 c =
     let p = c .before in
-    let k = then p in
-    sym (bundle-stop (plane (l k)) _ _ (turn (least p)) _ (turns (least p) .1) (x p) (called p .along .ensures) (not-made _ (answered p (not-true _ (c .if3 .taken))))) ∙ rest k
+    far-stop (then (least p) .loop .inv) (turn (least p)) (more p) (x p) (called p .along .ensures) (not-made _ (answered p (not-true _ (c .if3 .taken))))
 
-sub-left : tie.Need-sub-left Inv-loop μ-loop
-sub-left c = turns (least (c .before .before)) .1
+add-k : tie.Need-add-k Inv-loop μ-loop
+add-k c = let p = c .before in let h = more p in let g = turns (least p) .0 in let f = start (then (least p)) .fits .b in record { fits = omega arith }
 
 loop-less : tie.Need-loop-less Inv-loop μ-loop
-loop-less c = let f = turns (least (c .before .before)) in let a = f .0 in let b = f .1 in omega arith
+loop-less c = let p = c .before in let h = more p in let f = turns (least p) .0 in omega arith
 
 loop-again : tie.Need-loop-again Inv-loop μ-loop
 loop-again c =
-    let p = c .before .before in
-    let k = then p in
-    let e = is-made (x p .answer) (answered p (not-false _ (c .before .if3 .left))) in (
-      sym (bundle-made (plane (l k)) _ _ (turn (least p)) _ (turns (least p) .1) (x p) (called p .along .ensures) e) ∙ rest k,
-      kept p,
-      going-next (going k) (bundle-goes (plane (l k)) (turn (least p)) _ _ (called p .along .ensures) e),
-    )
+    let p = c .before in
+    far-on (then (least p) .loop .inv) (turn (least p)) (more p) (x p) (called p .along .ensures) (is-made (x p .answer) (answered p (not-false _ (c .if3 .left)))) (kept p)
+
+add-t29 : tie.Need-add-t29 Inv-loop μ-loop
+add-t29 c = let f = step-small (c .before .before) in let h = c .before .loop-test .left in record { fits = omega arith }
 
 returns-4 : tie.Need-returns-4 Inv-loop μ-loop
-returns-4 c = steps-over _ _ _ _ (c .loop-test .left) ∙ c .before .loop .inv .0
+returns-4 c = far-all (c .before .before .loop .inv) (c .before .loop-test .left)
 
 pub several-spec : {M : Type 1} → statement M
 several-spec =
@@ -190,6 +199,7 @@ several-spec =
     Inv-loop
     μ-loop
     loop-holds
+    add-if1
     mul-if1
     (λ c. search needs)
     returns
@@ -198,15 +208,17 @@ several-spec =
     refusal-requires
     (λ c. search needs)
     returns-2
+    (λ c. search needs)
     rem-least
-    sub-least
+    sub-least-2
     (λ c κs. search needs)
     along-requires
     (λ c κs. search needs)
     same-length-3
     returns-3
-    sub-left
+    add-k
     loop-less
     loop-again
+    add-t29
     (λ c. search needs)
     returns-4)
