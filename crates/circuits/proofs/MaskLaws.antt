@@ -14,10 +14,10 @@ use lib.Pow.{pow-pos, pow-mono}
 use Rattle.algebra.specs.Sign.{Sign, opposite, isNought, sameSign}
 use Rattle.algebra.proofs.SignLaws.{same-self, turned-other}
 use Rattle.circuits.specs.declared.Sides.{Sides}
-use Rattle.circuits.specs.Sizes.{maskBits}
 use Rattle.circuits.specs.Sides.{Term, side, split, masks}
 use Rattle.circuits.specs.Joined.{begun, joined, sides3, Below}
 use Rattle.algebra.specs.Sets.{maskOf}
+use Rattle.shots.specs.Sizes.{maskBits}
 
 pub bit-room : (x i : ℕ) → i < maskBits → x < 2 ^ i → x + 2 ^ i < 2 ^ maskBits
 bit-room x i h k = omega (arith, pow-mono {i = suc i} {j = maskBits} h)

@@ -1,8 +1,8 @@
 // The sides of a circuit, shot by shot in increasing order.
 ghost use mathlib.Core.Path.{_≡_};
 ghost use Prim.Native.Nat.{_^_, _<_};
-ghost use Rattle.circuits.specs.Sizes.{maskBits};
 ghost use Rattle.circuits.specs.Joined.{begun, joined, sides3, sides4, Below};
+ghost use Rattle.shots.specs.Sizes.{maskBits};
 use super::Sides;
 
 fn bit(i: usize) -> u16

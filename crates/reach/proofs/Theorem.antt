@@ -11,7 +11,7 @@
 --   run-ends           a run that is long enough does not answer made
 --   row-kept           what the first row has and every flip keeps, each row has
 --
--- Source: DEMANDS, demand 3; document 01, "The walk".
+-- Source: demand 3; document 01, "The walk".
 use mathlib.Core.Path.{_≡_, refl, sym, ap, _∙_}
 use mathlib.Core.Logic.{⊎-elim}
 use mathlib.Core.Bool.{Bool, true, false}

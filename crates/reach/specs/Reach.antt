@@ -1,6 +1,8 @@
 -- Rows and what is reached from one of them by flips, for any number of circuits and any flip, as a relation.
 --
+--   Flipping              a flip as a relation: of a row, the number of a circuit and a row
 --   Reach C F r₀ r        r is reached from r₀ by flips F along the circuits below C
+--   Among row n r         r is one of the rows `row 0` to `row (n - 1)`
 --   Stands k t n r        r is one of the first n rows, of k words each, of the table t
 --   Closed C F r₀ row n s   the walk's invariant over rows `row 0`, `row 1`, ..: n rows are in use and s steps are made
 --     some, first, below  there is a row, the first is r₀, and s is at most n × C
@@ -21,7 +23,6 @@ pub data Reach (C : ℕ) (F : Flipping) (r₀ : List ℕ) : List ℕ → Type 0 
   here : Reach C F r₀ r₀
   by-flip : {r r′ : List ℕ} {z : ℕ} → Reach C F r₀ r → z < C → F r z r′ → Reach C F r₀ r′
 
--- r is row p for some p below n
 abbrev pub Among : (ℕ → List ℕ) → ℕ → List ℕ → Type 0
 Among row n r = (p : ℕ) × (p < n) × (row p ≡ r)
 

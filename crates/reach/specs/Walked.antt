@@ -11,9 +11,10 @@
 --     neighbours          once (p + 1) × C ≤ step, every flip of row p is one of the rows
 --     done-at             a step answers done exactly at step = rows × C
 --     whole               then the rows are exactly what is reached from r₀ by flips
+--   Stops g l             a step over what l left is not made: it answers done, or refuses
 --   Ends g t w            the walk ends: after so many steps, all made, one more answers done or refuses; where it answers done, it is step rows × C
 --
--- Theorems: proofs/Theorem (`walk-listing`, `walk-ends`). Source: DEMANDS, demand 3; document 01, "The walk".
+-- Theorems: proofs/Theorem (`walk-listing`, `walk-ends`). Source: demand 3; document 01, "The walk".
 use mathlib.Core.Path.{_≡_}
 use mathlib.Core.Logic.{_⊎_, _↔_}
 use mathlib.Core.List.{List}
@@ -50,7 +51,6 @@ pub record Listing (g : Ground) (r₀ t : List ℕ) (w : WalkRecord) : Type 0 wh
   pub done-at : (stepOf g t w .answer ≡ gives done) ↔ (w .step ≡ w .rows * g .circuits)
   pub whole : w .step ≡ w .rows * g .circuits → (r : List ℕ) → Stands (g .words) t (w .rows) r ↔ Reach (g .circuits) (FlipsTo g) r₀ r
 
--- a step that is not made: done, or a refusal
 abbrev pub Stops : Ground → Landing → Type 0
 Stops g l = (stepOf g (l .table) (l .walk) .answer ≡ gives done) ⊎ ((n : ℕ) × (stepOf g (l .table) (l .walk) .answer ≡ refuses n))
 

@@ -20,8 +20,10 @@
 --   afterFlip g t w x      what a step makes of the flip's answer x: 13 is no refusal, the step is counted
 --   tryOf g t w            done at step rows × C; else circuit step mod C is tried on row step div C
 --   stepOf g t w           a step
+--   goOn l a m             m where the landing l answers made, and else l itself; a is l's answer
 --   stepsOf g b t w        steps until b are made, or one answers done or refuses
 --   runOf g t w b          a run
+--   begin g t w r a        what a start makes of the test's answer a
 --   startOf g t w r        a start
 --
 -- Theorems: specs/Walked and proofs/. Source: document 01, "The walk", "Refusal numbers".
@@ -106,7 +108,6 @@ stepOf g t w = onlyIf t w (chain (walkRules g t w) (tryOf g t w))
 
 -- ---- a run, a start
 
--- m where the step l was made, and else l itself
 abbrev pub goOn : Landing → Answer Reply → Landing → Landing
 goOn l (gives started) m = l
 goOn l (gives made) m = m

@@ -25,9 +25,8 @@ use Rattle.algebra.proofs.AnswerLaws.{reflects-no}
 use Rattle.algebra.proofs.SetTests.{union-within, subset-length, subset-same}
 use Rattle.algebra.proofs.BitLaws.{mask-below, bit-mask}
 use Rattle.algebra.proofs.UnionLaws.{mask-union, bit-union}
-use Rattle.shots.specs.Sizes.{shotsMost}
+use Rattle.shots.specs.Sizes.{shotsMost, maskBits}
 use Rattle.shots.specs.Patch.{countOf}
-use Rattle.circuits.specs.Sizes.{maskBits}
 use Rattle.circuits.specs.Sides.{Circuit, masks}
 use Rattle.circuits.specs.Numbered.{circuitsOf}
 use Rattle.circuits.specs.Calls.{circuitAt}
@@ -38,7 +37,7 @@ use Rattle.lists.specs.Tests.{isFlat, someFlat}
 use Rattle.triples.proofs.RankLaws.{triple-at-within}
 use Rattle.lists.proofs.ByWords.{both-some, on-ranked}
 use Rattle.surfaces.specs.Flips.{supportOf, piecesOf, supports, exchanged, flippedOf}
-use Rattle.surfaces.specs.Stars.{starOf, supportedBy, turnedBy}
+use Rattle.surfaces.specs.Stars.{starOf, supportedBy, turnedBy, foundBy, flippedBy}
 use Rattle.surfaces.proofs.Agreement.{sideOf, Proper, support-within, side-within, side-inside, support-shots, source-at, numbered}
 use Rattle.surfaces.proofs.StarLinks.{PartOf, Over, supported-by, turned-by}
 
@@ -136,14 +135,11 @@ module _ (l : List ℤ) (few : countOf l ≤ shotsMost) (z : ℕ) (low : z < len
 
     -- ---- what the code finds along it
 
-    pub found-along : (supportedBy (countOf l) (p + m) (starOf (countOf l) p (p + m)) w || supportedBy (countOf l) (p + m) (starOf (countOf l) m (p + m)) w)
-        ≡ (supports (countOf l) w (plusPieces l z) || supports (countOf l) w (minusPieces l z))
+    pub found-along : foundBy (countOf l) (p + m) (starOf (countOf l) p (p + m)) (starOf (countOf l) m (p + m)) w ≡ (supports (countOf l) w (plusPieces l z) || supports (countOf l) w (minusPieces l z))
     found-along = λ k. supported-plus k || supported-minus k
 
     pub list-along : (supports (countOf l) w (plusPieces l z) || supports (countOf l) w (minusPieces l z)) ≡ true
-        → cond (supportedBy (countOf l) (p + m) (starOf (countOf l) p (p + m)) w) (turnedBy (countOf l) (p + m) (starOf (countOf l) p (p + m)) (starOf (countOf l) m (p + m)) w)
-        (cond (supportedBy (countOf l) (p + m) (starOf (countOf l) m (p + m)) w) (turnedBy (countOf l) (p + m) (starOf (countOf l) m (p + m)) (starOf (countOf l) p (p + m)) w) w)
-        ≡ flippedOf (countOf l) w (circuitAt l z)
+        → flippedBy (countOf l) (p + m) (starOf (countOf l) p (p + m)) (starOf (countOf l) m (p + m)) w ≡ flippedOf (countOf l) w (circuitAt l z)
     unfolding flippedOf
     list-along h = (λ k. cond (supported-plus k) there (cond (supported-minus k) back w)) ∙ go (supports n w (plusPieces l z)) (supports n w (minusPieces l z)) refl refl h
       where

@@ -1,48 +1,87 @@
 -- The chains of refusals of `placing` and `flip`, test by test as the code makes them.
 --
---   placing-bad, placing-good    the result fails the test, or is given
---   flip-stops, flip-unlisted, flip-unnumbered, flip-none, flip-bad, flip-good
---                                the shots are refused, the list is; there is no such circuit; neither side is supported; the result fails the test; it is given
-use mathlib.Core.Path.{_≡_, sym, _∙_, ap}
+--   placing-bad, placing-good          the result fails the test, or is given
+--   turn-none, turn-bad, turn-good     between two stars: neither is supported; the result fails the test; it is given
+--   flip-stops, flip-unlisted, flip-unnumbered    the shots are refused, the list is; there is no such circuit
+--   flip-turned                        what is found between the stars of the circuit's sides
+use mathlib.Core.Path.{_≡_, refl, sym, _∙_, ap}
 use mathlib.Core.Bool.{Bool, true, false, not, _||_}
 use mathlib.Core.List.{List, [], _∷_, _++_}
-use Prim.Native.Nat.{ℕ, _≤_, _<_}
+use Prim.Native.Nat.{ℕ, _+_, _≤_, _<_}
 use lib.ListN.{length}
 use lib.IntN.{ℤ}
 use borrow.Author.Tests.{eq-eqb, ne-eqb, le-leb, lt-leb}
-use Rattle.algebra.specs.Answer.{gives, refuses, chain}
+use Rattle.algebra.specs.Answer.{Answer, gives, refuses, chain}
+use Rattle.algebra.specs.Words.{Words}
 use Rattle.algebra.proofs.AnswerLaws.{chain-broken, chain-kept}
 use Rattle.shots.specs.Patch.{countOf}
 use Rattle.shots.specs.Tests.{refusalOf}
+use Rattle.shots.proofs.Patch.{patch-few}
 use Rattle.shots.proofs.Chains.{shots-refused, shots-passed}
+use Rattle.circuits.specs.Sides.{masks}
 use Rattle.circuits.specs.Numbered.{circuitsOf}
 use Rattle.circuits.specs.Calls.{circuitAt, circuitRule}
+use Rattle.triples.specs.Sizes.{wordCount}
 use Rattle.lists.specs.Tests.{listRules, listRefusalOf}
+use Rattle.lists.proofs.ByWords.{accepted-solid}
 use Rattle.lists.proofs.Chains.{list-refused, list-passed}
-use Rattle.surfaces.specs.Flips.{supports, flippedOf}
+use Rattle.surfaces.specs.Flips.{flippedOf}
 use Rattle.surfaces.specs.Placing.{placedOf}
 use Rattle.surfaces.specs.Calls.{badResult, placingOf, noFlip, flipRules, flipOf}
-use Rattle.surfaces.proofs.ByStars.{plusPieces, minusPieces}
+use Rattle.surfaces.specs.Stars.{starOf, foundBy, flippedBy, noTurn, turnAnswer}
+use Rattle.surfaces.proofs.ByStars.{found-along, list-along}
 
--- the test of a result; `s` is what the callee gave
-module _ (l : List ℤ) (w : List ℕ) {s : ℕ} (f : s ≡ listRefusalOf l w) where
-  bad-result : (s ≡ 0 → ⊥) → badResult l w .broken ≡ true
-  bad-result h = ap not (ne-eqb (listRefusalOf l w) 0 (λ z. h (f ∙ z)))
+-- the test of a result w; `v` and `s` are what the callees gave
+module _ (l : List ℤ) (w : List ℕ) {v : List ℕ} (q : v ≡ w) {s : ℕ} (f : s ≡ listRefusalOf l v) where
+  tested : s ≡ listRefusalOf l w
+  tested = f ∙ ap (listRefusalOf l) q
 
-  good-result : s ≡ 0 → badResult l w .broken ≡ false
-  good-result h = ap not (eq-eqb (listRefusalOf l w) 0 (sym f ∙ h))
+  result-bad : (s ≡ 0 → ⊥) → refuses 14 ≡ chain (badResult l w ∷ []) w
+  result-bad h = chain-broken (badResult l w) [] w (ap not (ne-eqb (listRefusalOf l w) 0 (λ z. h (tested ∙ z))))
 
-module _ (l : List ℤ) {r : ℕ} (e : r ≡ refusalOf l) (h : r ≡ 0) {w : List ℕ} (q : w ≡ placedOf l) {s : ℕ} (f : s ≡ listRefusalOf l w) where
-  result : s ≡ listRefusalOf l (placedOf l)
-  result = f ∙ ap (listRefusalOf l) q
+  result-good : s ≡ 0 → gives v ≡ chain (badResult l w ∷ []) w
+  unfolding chain
+  result-good h = ap gives q ∙ chain-kept (badResult l w) [] w (ap not (eq-eqb (listRefusalOf l w) 0 (sym tested ∙ h)))
+
+module _ (l : List ℤ) {r : ℕ} (e : r ≡ refusalOf l) (h : r ≡ 0) {v : List ℕ} (q : v ≡ placedOf l) {s : ℕ} (f : s ≡ listRefusalOf l v) where
+  behind-shots : chain (badResult l (placedOf l) ∷ []) (placedOf l) ≡ placingOf l
+  unfolding placingOf
+  behind-shots = shots-passed l (badResult l (placedOf l) ∷ []) (placedOf l) e h
 
   pub placing-bad : (s ≡ 0 → ⊥) → refuses 14 ≡ placingOf l
-  unfolding placingOf
-  placing-bad g = chain-broken (badResult l (placedOf l)) [] (placedOf l) (bad-result l (placedOf l) result g) ∙ shots-passed l (badResult l (placedOf l) ∷ []) (placedOf l) e h
+  placing-bad g = result-bad l (placedOf l) q f g ∙ behind-shots
 
-  pub placing-good : s ≡ 0 → gives w ≡ placingOf l
-  unfolding placingOf chain
-  placing-good g = ap gives q ∙ chain-kept (badResult l (placedOf l)) [] (placedOf l) (good-result l (placedOf l) result g) ∙ shots-passed l (badResult l (placedOf l) ∷ []) (placedOf l) e h
+  pub placing-good : s ≡ 0 → gives v ≡ placingOf l
+  placing-good g = result-good l (placedOf l) q f g ∙ behind-shots
+
+-- between two stars; `b`, `v` and `s` are what the callees gave
+module _ (l : List ℤ) (x : ℕ) (t u w : List ℕ) {b : Bool} (p : b ≡ foundBy (countOf l) x t u w) where
+  abbrev turned : List ℕ
+  turned = flippedBy (countOf l) x t u w
+
+  pub turn-none : b ≡ false → refuses 13 ≡ turnAnswer l x t u w
+  unfolding turnAnswer
+  turn-none h = chain-broken (noTurn l x t u w) _ turned (ap not (sym p ∙ h))
+
+  module _ (h : b ≡ true) {v : List ℕ} (q : v ≡ flippedBy (countOf l) x t u w) {s : ℕ} (f : s ≡ listRefusalOf l v) where
+    found-on : chain (badResult l turned ∷ []) turned ≡ turnAnswer l x t u w
+    unfolding turnAnswer
+    found-on = chain-kept (noTurn l x t u w) _ turned (ap not (sym p ∙ h))
+
+    pub turn-bad : (s ≡ 0 → ⊥) → refuses 14 ≡ turnAnswer l x t u w
+    turn-bad g = result-bad l turned q f g ∙ found-on
+
+    pub turn-good : s ≡ 0 → gives v ≡ turnAnswer l x t u w
+    turn-good g = result-good l turned q f g ∙ found-on
+
+-- a flip that is found or not, and its result where it is
+abbrev found-then : List ℤ → Bool → List ℕ → Answer (List ℕ)
+found-then l b v = chain (record { number = 13; broken = not b } ∷ badResult l v ∷ []) v
+
+found-same : (l : List ℤ) {a : Bool} (b : Bool) {u v : List ℕ} → a ≡ b → (b ≡ true → u ≡ v) → found-then l a u ≡ found-then l b v
+unfolding chain
+found-same l true e f = λ k. found-then l (e k) (f refl k)
+found-same l false e f = rw e refl
 
 module _ (l : List ℤ) (w : List ℕ) (z : ℕ) {r : ℕ} (e : r ≡ refusalOf l) where
   abbrev given : List ℕ
@@ -65,20 +104,15 @@ module _ (l : List ℤ) (w : List ℕ) (z : ℕ) {r : ℕ} (e : r ≡ refusalOf 
       pub flip-unnumbered : length (circuitsOf l) ≤ z → refuses 12 ≡ flipOf l w z
       flip-unnumbered m = chain-broken (circuitRule l z) _ given (le-leb (length (circuitsOf l)) z m) ∙ behind
 
-      module _ (m : z < length (circuitsOf l)) {b : Bool} (p : b ≡ (supports (countOf l) w (plusPieces l z) || supports (countOf l) w (minusPieces l z))) where
-        numbered-on : chain (noFlip l w (circuitAt l z) ∷ badResult l given ∷ []) given ≡ flipOf l w z
-        numbered-on = chain-kept (circuitRule l z) _ given (lt-leb (length (circuitsOf l)) z m) ∙ behind
+      -- p and m are the masks of the circuit's sides, t and u their stars
+      module _ (words : Words wordCount w) (low : z < length (circuitsOf l)) (p m : ℕ) (sided : (p ≡ masks (circuitAt l z) .plus) × (m ≡ masks (circuitAt l z) .minus)) where
+        turned-along : turnAnswer l (p + m) (starOf (countOf l) p (p + m)) (starOf (countOf l) m (p + m)) w ≡ flipOf l w z
+        unfolding turnAnswer
+        turned-along =
+            let few = patch-few l (sym e ∙ h) .1 in
+            let solid = accepted-solid l w (sym f ∙ k) .1 in
+            found-same l _ (found-along l few z low p m sided w words solid) (list-along l few z low p m sided w words solid)
+            ∙ chain-kept (circuitRule l z) _ given (lt-leb (length (circuitsOf l)) z low) ∙ behind
 
-        pub flip-none : b ≡ false → refuses 13 ≡ flipOf l w z
-        flip-none t = chain-broken (noFlip l w (circuitAt l z)) _ given (ap not (sym p ∙ t)) ∙ numbered-on
-
-        module _ (t : b ≡ true) {u : List ℕ} (q : u ≡ given) {d : ℕ} (g : d ≡ listRefusalOf l u) where
-          found-on : chain (badResult l given ∷ []) given ≡ flipOf l w z
-          found-on = chain-kept (noFlip l w (circuitAt l z)) _ given (ap not (sym p ∙ t)) ∙ numbered-on
-
-          pub flip-bad : (d ≡ 0 → ⊥) → refuses 14 ≡ flipOf l w z
-          flip-bad y = chain-broken (badResult l given) [] given (bad-result l given (g ∙ ap (listRefusalOf l) q) y) ∙ found-on
-
-          pub flip-good : d ≡ 0 → gives u ≡ flipOf l w z
-          unfolding chain
-          flip-good y = ap gives q ∙ chain-kept (badResult l given) [] given (good-result l given (g ∙ ap (listRefusalOf l) q) y) ∙ found-on
+        pub flip-turned : {t u : List ℕ} → t ≡ starOf (countOf l) p (p + m) → u ≡ starOf (countOf l) m (p + m) → turnAnswer l (p + m) t u w ≡ flipOf l w z
+        flip-turned a b = (λ j. turnAnswer l (p + m) (a j) (b j) w) ∙ turned-along

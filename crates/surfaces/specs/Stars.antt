@@ -6,18 +6,26 @@
 --   linkedOf n x t w      the triples with such a shot
 --   supportedBy n x t w   the list w supports the pieces whose star is t
 --   turnedBy n x t u w    the list with the star t taken out, and what belongs to the same link in the star u put in
+--   foundBy n x t u w     the list w supports the pieces of one of the stars t and u
+--   flippedBy n x t u w   the list turned from t to u where t is supported, else from u to t where u is, else as it is
+--   noTurn l x t u w      13: neither star is supported
+--   turnAnswer l x t u w  that list; or 13, or 14 where it fails the test
 --
--- That this is the flip of specs/Flips: proofs/ByStars.
+-- That this is the flip of specs/Flips: proofs/ByStars, proofs/CallChains.
 use mathlib.Core.Bool.{Bool, not, cond, _||_, _&&_}
-use mathlib.Core.List.{List}
+use mathlib.Core.List.{List, [], _∷_}
 use Prim.Native.Nat.{ℕ}
 use lib.Dec.{ltb}
+use lib.IntN.{ℤ}
+use Rattle.algebra.specs.Answer.{Answer, Rule, chain}
 use Rattle.algebra.specs.Loops.{any}
 use Rattle.algebra.specs.Sets.{isOn, bit}
 use Rattle.algebra.specs.Words.{clearBit, sift, bothOf, eitherOf, lessOf, meetsOf, insideOf}
+use Rattle.shots.specs.Patch.{countOf}
 use Rattle.triples.specs.Sizes.{wordCount}
 use Rattle.triples.specs.Ranks.{tripleCount, tripleAt}
 use Rattle.triples.specs.Sets.{maskOn, holdersOf}
+use Rattle.surfaces.specs.Calls.{badResult}
 
 unfoldable pub starOf : ℕ → ℕ → ℕ → List ℕ
 starOf n a x = sift wordCount (λ r. ltb r (tripleCount n) && any n (λ i. bit a i && (maskOn n (clearBit x i) (tripleAt n r) && not (isOn i (tripleAt n r)))))
@@ -36,3 +44,17 @@ supportedBy n x t w = meetsOf t w && (insideOf t w || insideOf (bothOf t w) (lin
 
 unfoldable pub turnedBy : ℕ → ℕ → List ℕ → List ℕ → List ℕ → List ℕ
 turnedBy n x t u w = eitherOf (lessOf w t) (cond (insideOf t w) u (bothOf u (linkedOf n x t w)))
+
+-- ---- between two stars
+
+abbrev pub foundBy : ℕ → ℕ → List ℕ → List ℕ → List ℕ → Bool
+foundBy n x t u w = supportedBy n x t w || supportedBy n x u w
+
+abbrev pub flippedBy : ℕ → ℕ → List ℕ → List ℕ → List ℕ → List ℕ
+flippedBy n x t u w = cond (supportedBy n x t w) (turnedBy n x t u w) (cond (supportedBy n x u w) (turnedBy n x u t w) w)
+
+abbrev pub noTurn : List ℤ → ℕ → List ℕ → List ℕ → List ℕ → Rule
+noTurn l x t u w = record { number = 13; broken = not (foundBy (countOf l) x t u w) }
+
+unfoldable pub turnAnswer : List ℤ → ℕ → List ℕ → List ℕ → List ℕ → Answer (List ℕ)
+turnAnswer l x t u w = chain (noTurn l x t u w ∷ badResult l (flippedBy (countOf l) x t u w) ∷ []) (flippedBy (countOf l) x t u w)

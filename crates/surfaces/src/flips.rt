@@ -1,18 +1,25 @@
-// The flip of a list along a circuit, by sets of triples.
+// The flip of a list along a circuit, by sets of triples, and the test of its result.
 ghost use mathlib.Core.Path.{_≡_};
-ghost use mathlib.Core.Bool.{_||_, cond};
-ghost use Prim.Native.Nat.{_+_, _*_, _^_, _≤_, _<_};
+ghost use mathlib.Core.Bool.{cond};
+ghost use Prim.Native.Nat.{_*_, _≤_, _<_};
 ghost use lib.ListN.{length};
 ghost use Rattle.algebra.specs.Words.{clearBit};
-ghost use Rattle.shots.specs.Sizes.{shotsMost};
-ghost use Rattle.circuits.specs.Sizes.{maskBits};
+ghost use Rattle.shots.specs.Sizes.{shotsMost, maskBits};
+ghost use Rattle.shots.specs.Patch.{countOf};
+ghost use Rattle.shots.specs.Tests.{refusalOf};
+ghost use Rattle.circuits.specs.Sizes.{circuitsMost};
+ghost use Rattle.circuits.specs.Numbered.{circuitsOf};
 ghost use Rattle.triples.specs.Sizes.{wordCount};
 ghost use Rattle.triples.specs.Sets.{wordsOf, Holding};
-ghost use Rattle.surfaces.specs.Stars.{starOf, linkedOf, linkedAt, supportedBy, turnedBy};
+ghost use Rattle.lists.specs.Held.{heldRows, Sided, Prepared};
+ghost use Rattle.surfaces.specs.Stars.{starOf, linkedOf, linkedAt, supportedBy, turnedBy, foundBy, flippedBy, turnAnswer};
+ghost use Rattle.surfaces.specs.Calls.{readSurface, flipOf};
+use super::Surface;
+use lists::core;
 use triples::Triples;
 
 // A list that was flipped, or as it was where there is no flip.
-pub struct Turned {
+struct Turned {
     pub found: bool,
     pub list: Triples,
 }
@@ -75,14 +82,7 @@ fn linked(held: &[u64], n: usize, x: u16, star: Triples, list: Triples) -> Tripl
 }
 
 // The star exchanged for the other one, where the list supports it.
-pub fn exchange(
-    held: &[u64],
-    n: usize,
-    x: u16,
-    star: Triples,
-    other: Triples,
-    list: Triples,
-) -> Turned
+fn exchange(held: &[u64], n: usize, x: u16, star: Triples, other: Triples, list: Triples) -> Turned
     requires { ⌜ (n ≤ shotsMost) × (wordCount * n ≤ length (now held)) × Holding n (now held) ⌝ }
     ensures { λ r. ⌜ (r .found ≡ supportedBy n x (wordsOf star) (wordsOf list)) × (wordsOf (r .list) ≡ cond (supportedBy n x (wordsOf star) (wordsOf list)) (turnedBy n x (wordsOf star) (wordsOf other) (wordsOf list)) (wordsOf list)) ⌝ }
 {
@@ -109,16 +109,9 @@ pub fn exchange(
 }
 
 // The flip between two stars of the circuit x: the plus side's pieces where they are supported, else the minus side's.
-pub fn between(
-    held: &[u64],
-    n: usize,
-    x: u16,
-    plus: Triples,
-    minus: Triples,
-    list: Triples,
-) -> Turned
+fn between(held: &[u64], n: usize, x: u16, plus: Triples, minus: Triples, list: Triples) -> Turned
     requires { ⌜ (n ≤ shotsMost) × (wordCount * n ≤ length (now held)) × Holding n (now held) ⌝ }
-    ensures { λ r. ⌜ (r .found ≡ (supportedBy n x (wordsOf plus) (wordsOf list) || supportedBy n x (wordsOf minus) (wordsOf list))) × (wordsOf (r .list) ≡ cond (supportedBy n x (wordsOf plus) (wordsOf list)) (turnedBy n x (wordsOf plus) (wordsOf minus) (wordsOf list)) (cond (supportedBy n x (wordsOf minus) (wordsOf list)) (turnedBy n x (wordsOf minus) (wordsOf plus) (wordsOf list)) (wordsOf list))) ⌝ }
+    ensures { λ r. ⌜ (r .found ≡ foundBy n x (wordsOf plus) (wordsOf minus) (wordsOf list)) × (wordsOf (r .list) ≡ flippedBy n x (wordsOf plus) (wordsOf minus) (wordsOf list)) ⌝ }
 {
     let first = exchange(held, n, x, plus, minus, list);
     if first.found {
@@ -127,11 +120,61 @@ pub fn between(
     exchange(held, n, x, minus, plus, list)
 }
 
-// The flip along the circuit with the sides p and m.
-pub fn along(held: &[u64], n: usize, p: u16, m: u16, list: Triples) -> Turned
-    requires { ⌜ (n ≤ shotsMost) × (wordCount * n ≤ length (now held)) × Holding n (now held) × (p + m < 2 ^ maskBits) ⌝ }
-    ensures { λ r. ⌜ (r .found ≡ (supportedBy n (p + m) (starOf n p (p + m)) (wordsOf list) || supportedBy n (p + m) (starOf n m (p + m)) (wordsOf list))) × (wordsOf (r .list) ≡ cond (supportedBy n (p + m) (starOf n p (p + m)) (wordsOf list)) (turnedBy n (p + m) (starOf n p (p + m)) (starOf n m (p + m)) (wordsOf list)) (cond (supportedBy n (p + m) (starOf n m (p + m)) (wordsOf list)) (turnedBy n (p + m) (starOf n m (p + m)) (starOf n p (p + m)) (wordsOf list)) (wordsOf list))) ⌝ }
+// The flip of a list between two stars of the circuit x, and the test of its result.
+pub fn tested(
+    shots: &[i32],
+    held: &[u64],
+    count: usize,
+    x: u16,
+    plus: Triples,
+    minus: Triples,
+    list: Triples,
+) -> Surface
+    requires { ⌜ (countOf (now shots) ≤ shotsMost) × (count ≡ length (circuitsOf (now shots))) × (wordCount * heldRows ≤ length (now held)) × Prepared (now shots) (now held) ⌝ }
+    ensures { λ r. ⌜ readSurface r ≡ turnAnswer (now (shots .entry)) x (wordsOf plus) (wordsOf minus) (wordsOf list) ⌝ }
 {
+    let turned = between(held, shots.len() / 2, x, plus, minus, list);
+    if !turned.found {
+        return Surface::Refused(13);
+    }
+    let next = turned.list;
+    if core::refusal(shots, held, count, next) != 0 {
+        return Surface::Refused(14);
+    }
+    Surface::List(next)
+}
+
+// The flip of a list along circuit z, test by test, over what is worked out of a patch.
+pub fn along(
+    shots: &[i32],
+    plus: &[u16],
+    minus: &[u16],
+    held: &[u64],
+    count: usize,
+    list: Triples,
+    z: usize,
+) -> Surface
+    requires { ⌜ (refusalOf (now shots) ≡ 0) × (count ≡ length (circuitsOf (now shots))) × (circuitsMost ≤ length (now plus)) × (circuitsMost ≤ length (now minus)) × Sided (now shots) (now plus) (now minus) × (wordCount * heldRows ≤ length (now held)) × Prepared (now shots) (now held) ⌝ }
+    ensures { λ r. ⌜ readSurface r ≡ flipOf (now (shots .entry)) (wordsOf list) z ⌝ }
+{
+    let number = core::refusal(shots, held, count, list);
+    if number != 0 {
+        return Surface::Refused(number);
+    }
+    if count <= z {
+        return Surface::Refused(12);
+    }
+    let n = shots.len() / 2;
+    let p = plus[z];
+    let m = minus[z];
     let x = p + m;
-    between(held, n, x, star(held, n, p, x), star(held, n, m, x), list)
+    tested(
+        shots,
+        held,
+        count,
+        x,
+        star(held, n, p, x),
+        star(held, n, m, x),
+        list,
+    )
 }

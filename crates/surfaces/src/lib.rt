@@ -49,20 +49,5 @@ pub fn flip(shots: &[i32], list: Triples, z: usize) -> Surface
     let mut minus = [0u16; CIRCUITS_MOST];
     let mut held = [0u64; HELD_WORDS];
     let count = core::prepare(shots, &mut plus, &mut minus, &mut held);
-    let number = core::refusal(shots, &held, count, list);
-    if number != 0 {
-        return Surface::Refused(number);
-    }
-    if count <= z {
-        return Surface::Refused(12);
-    }
-    let turned = flips::along(&held, shots.len() / 2, plus[z], minus[z], list);
-    if !turned.found {
-        return Surface::Refused(13);
-    }
-    let next = turned.list;
-    if core::refusal(shots, &held, count, next) != 0 {
-        return Surface::Refused(14);
-    }
-    Surface::List(next)
+    flips::along(shots, &plus, &minus, &held, count, list, z)
 }

@@ -42,7 +42,7 @@ use Rattle.surfaces.specs.Calls.{flipOf}
 use Rattle.surfaces.proofs.Promises.{flip-words}
 use Rattle.surfaces.proofs.CallChains.{flip-unlisted}
 use Rattle.walks.specs.Calls.{plane, isMade}
-use Rattle.walks.specs.Ready.{Going}
+use Rattle.walks.specs.Going.{Going}
 
 -- ---- the number of a step
 

@@ -6,7 +6,7 @@
 --   walk-surfaces        a table and a record that an accepted start and its walk's steps and runs have written keep the promise
 --   walk-length          from an accepted start the walk ends, with the promise kept; and where it is not refused, after exactly (surfaces found) × C steps
 --
--- For any flip: reach/proofs/Theorem. Source: DEMANDS, demand 3; document 01, "The walk".
+-- For any flip: reach/proofs/Theorem. Source: demand 3; document 01, "The walk".
 use mathlib.Core.Path.{_≡_, refl, _∙_}
 use mathlib.Core.Logic.{_↔_}
 use mathlib.Core.List.{List}

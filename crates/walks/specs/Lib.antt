@@ -1,4 +1,4 @@
 pub mod Calls
-pub mod Ready
+pub mod Going
 pub mod Lines
 pub mod Surfaces

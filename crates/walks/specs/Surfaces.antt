@@ -11,7 +11,7 @@
 --     whole                  then the rows are exactly the surfaces that are reached from w₀ by flips
 --     ends                   the walk ends: some number of steps are made, and one more answers done or refuses; where it answers done, that is step rows × C
 --
--- The theorem: proofs/Theorem (`walk-surfaces`); for any flip: reach/specs/Walked. Source: DEMANDS, demand 3; document 01, "The walk".
+-- The theorem: proofs/Theorem (`walk-surfaces`); for any flip: reach/specs/Walked. Source: demand 3; document 01, "The walk".
 use mathlib.Core.Path.{_≡_}
 use mathlib.Core.Logic.{_↔_}
 use mathlib.Core.List.{List}

@@ -7,13 +7,10 @@
 // Each has a twin, start_at, step_at, run_at, that takes the record by value and hands it back. Every call takes every input; specs/Calls.antt says what it answers and leaves,
 // specs/Lines.antt when it refuses, specs/Surfaces.antt what a walk lists.
 ghost use mathlib.Core.Path.{_≡_};
-ghost use Rattle.triples.specs.Sets.{wordsOf};
 ghost use Rattle.walks.specs.Calls.{startLanding, stepLanding, afterStart, afterStep, startCallOf, stepCallOf, runCallOf};
 use circuits::CIRCUITS_MOST;
 use triples::Triples;
-use triples::WORDS;
 
-pub mod ready;
 pub mod steps;
 pub mod table;
 
@@ -81,8 +78,8 @@ pub fn run_at(shots: &[i32], table: &mut [u64], walk: Walk, b: usize) -> AfterSt
     }
     let mut plus = [0u16; CIRCUITS_MOST];
     let mut minus = [0u16; CIRCUITS_MOST];
-    let mut held = [0u64; ready::HELD_WORDS];
-    let count = ready::prepare(shots, &mut plus, &mut minus, &mut held);
+    let mut held = [0u64; ready::core::HELD_WORDS];
+    let count = ready::core::prepare(shots, &mut plus, &mut minus, &mut held);
     if table::impossible(table::capacity(table.len()), walk, count) {
         return AfterStep {
             answer: Stepped::Refused(15),

@@ -1,19 +1,16 @@
 // Steps over what a run has worked out: the shots and the record are tested before, a row is tested once.
 ghost use mathlib.Core.Path.{_≡_};
 ghost use Prim.Native.Nat.{_*_, _-_, _/_, _%_, _≤_, _<_, min};
-ghost use lib.ListN.{length};
 ghost use Rattle.algebra.specs.Words.{rowOf};
 ghost use Rattle.reach.specs.Walks.{stepOf, stepsOf};
-ghost use Rattle.circuits.specs.Numbered.{circuitsOf};
 ghost use Rattle.triples.specs.Sizes.{wordCount};
 ghost use Rattle.triples.specs.Sets.{wordsOf};
 ghost use Rattle.lists.specs.Tests.{listRefusalOf};
 ghost use Rattle.walks.specs.Calls.{plane, readWalk, readStepped, afterStep, isMade};
-ghost use Rattle.walks.specs.Ready.{Going};
+ghost use Rattle.walks.specs.Going.{Going};
 use super::AfterStep;
 use super::Stepped;
 use super::Walk;
-use super::ready;
 use super::table;
 use lists::core;
 use surfaces::Surface;
@@ -45,7 +42,7 @@ fn one(
     requires { ⌜ Going (now shots) (now plus) (now minus) (now held) count (now table) (readWalk walk) × (walk .step < walk .rows * count) × (wordsOf row ≡ rowOf wordCount (now table) (walk .step / count)) × (listRefusalOf (now shots) (wordsOf row) ≡ 0) ⌝ }
     ensures { λ r. ⌜ afterStep (now (table .exit)) r ≡ stepOf (plane (now (shots .entry))) (now (table .entry)) (readWalk walk) ⌝ }
 {
-    let flipped = ready::flip(shots, plus, minus, held, count, row, walk.step % count);
+    let flipped = ready::core::flip(shots, plus, minus, held, count, row, walk.step % count);
     match flipped {
         Surface::List(next) => table::place(table, walk, next),
         Surface::Refused(number) => {

@@ -18,7 +18,7 @@ use Rattle.circuits.specs.Numbered.{circuitsOf}
 use Rattle.circuits.proofs.Bounds.{circuits-most}
 use Rattle.triples.specs.Sizes.{wordCount}
 use Rattle.walks.specs.Calls.{plane, readWalk}
-use Rattle.walks.specs.Ready.{Going}
+use Rattle.walks.specs.Going.{Going}
 use Rattle.walks.proofs.StepsLaws.{run-steps}
 use Rattle.walks.proofs.run_at.Statement.{statement}
 use Rattle.walks.proofs.run_at.Tie as tie

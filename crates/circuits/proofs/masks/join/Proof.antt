@@ -4,10 +4,10 @@ use Prim.Native.Nat.{ℕ, _+_, _^_, _<_}
 use borrow.Author.Needs.{needs}
 use mir.Syntax.{w16}
 use mir.Val.{Fits}
-use Rattle.circuits.specs.Sizes.{maskBits}
 use Rattle.circuits.proofs.MaskLaws.{bit-room}
 use Rattle.circuits.proofs.masks.join.Statement.{statement}
 use Rattle.circuits.proofs.masks.join.Tie as tie
+use Rattle.shots.specs.Sizes.{maskBits}
 
 room : (x i b : ℕ) → b ≡ 2 ^ i → i < maskBits → x < 2 ^ i → Fits w16 (x + b)
 room x i b e h k = record { fits = rw e (bit-room x i h k) }

@@ -4,7 +4,7 @@ use Prim.Native.Nat.{ℕ, _-_, _^_}
 use lib.Bits.{bitAnd}
 use borrow.Author.Needs.{needs}
 use Rattle.algebra.proofs.BitOps.{one-shl, and-clear}
-use Rattle.circuits.specs.Sizes.{maskBits}
+use Rattle.shots.specs.Sizes.{maskBits}
 use Rattle.surfaces.proofs.flips.dropped.Statement.{statement}
 use Rattle.surfaces.proofs.flips.dropped.Tie as tie
 

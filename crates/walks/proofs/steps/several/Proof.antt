@@ -18,7 +18,7 @@ use Rattle.reach.proofs.RunLaws.{steps-one}
 use Rattle.shots.proofs.Patch.{patch-few}
 use Rattle.circuits.specs.Sizes.{circuitsMost}
 use Rattle.walks.specs.Calls.{plane, readWalk, afterStep, isMade}
-use Rattle.walks.specs.Ready.{Going}
+use Rattle.walks.specs.Going.{Going}
 use Rattle.walks.proofs.StepsLaws.{turn-facts, is-made, not-made, later, SoFar, far-none, far-on, far-stop, far-all}
 use Rattle.walks.proofs.StepsLaws.{going-below, going-small, going-room, going-on, step-ends, step-unlisted}
 use Rattle.walks.proofs.steps.several.Statement.{statement}

@@ -1,4 +1,4 @@
--- `walks::ready::stars` meets its contract: the rows written so far, and the holders below them, which stay.
+-- `ready::core::stars` meets its contract: the rows written so far, and the holders below them, which stay.
 use mathlib.Core.Path.{_≡_, refl}
 use Prim.Native.Nat.{_-_, _≤_}
 use native.Mathlib.Omega.{arith}
@@ -6,9 +6,9 @@ use lib.ListN.{length}
 use borrow.Author.Needs.{needs}
 use Rattle.triples.specs.Sets.{holdersOf, Written}
 use Rattle.triples.proofs.RowLaws.{written-none, written-more, written-end, rows-kept}
-use Rattle.walks.proofs.ReadyLaws.{starring}
-use Rattle.walks.proofs.ready.stars.Statement.{statement}
-use Rattle.walks.proofs.ready.stars.Tie as tie
+use Rattle.ready.proofs.ReadyLaws.{starring}
+use Rattle.ready.proofs.core.stars.Statement.{statement}
+use Rattle.ready.proofs.core.stars.Tie as tie
 
 abbrev Inv-loop : tie.InvT-loop
 Inv-loop n plus minus side count first held₀ z₀ held z = (z ≤ count) × (length held ≡ length held₀) × Written first z (starring n plus minus side) held₀ held

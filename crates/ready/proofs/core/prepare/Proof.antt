@@ -1,14 +1,14 @@
--- `walks::ready::prepare` meets its contract: the stars are written behind what a test reads, those of the plus sides and then those of the minus sides.
+-- `ready::core::prepare` meets its contract: the stars are written behind what a test reads, those of the plus sides and then those of the minus sides.
 use mathlib.Core.List.{List}
 use Prim.Native.Nat.{ℕ, _+_, _*_, _^_, _≤_, _<_}
 use native.Mathlib.Omega.{arith}
 use lib.ListN.{length, getD}
 use lib.IntN.{ℤ}
 use borrow.Author.Needs.{needs}
-use Rattle.shots.specs.Sizes.{shotsMost}
+use Rattle.shots.specs.Sizes.{shotsMost, maskBits}
 use Rattle.shots.specs.Patch.{countOf}
 use Rattle.shots.proofs.Patch.{patch-near, patch-few}
-use Rattle.circuits.specs.Sizes.{maskBits, circuitsMost}
+use Rattle.circuits.specs.Sizes.{circuitsMost}
 use Rattle.circuits.specs.Numbered.{circuitsOf}
 use Rattle.circuits.proofs.Bounds.{circuits-most}
 use Rattle.triples.specs.Sizes.{wordCount}
@@ -16,10 +16,10 @@ use Rattle.triples.specs.Sets.{holdersOf, Holding}
 use Rattle.triples.proofs.RowLaws.{rows-kept}
 use Rattle.lists.specs.Held.{heldRows}
 use Rattle.surfaces.proofs.ByStars.{sum-low}
-use Rattle.walks.specs.Ready.{readyRows}
-use Rattle.walks.proofs.ReadyLaws.{stars-ready}
-use Rattle.walks.proofs.ready.prepare.Statement.{statement}
-use Rattle.walks.proofs.ready.prepare.Tie as tie
+use Rattle.ready.specs.Ready.{readyRows}
+use Rattle.ready.proofs.ReadyLaws.{stars-ready}
+use Rattle.ready.proofs.core.prepare.Statement.{statement}
+use Rattle.ready.proofs.core.prepare.Tie as tie
 
 prepare-requires : tie.Need-prepare-requires
 prepare-requires c κs =

@@ -22,7 +22,7 @@ use Rattle.triples.specs.Sets.{holdersOf, SameBelow, Written}
 use Rattle.triples.proofs.RowLaws.{rows-kept}
 use Rattle.lists.specs.Held.{plusRow, minusRow, innerRow, solidRow, heldRows, Sided, Prepared}
 use Rattle.surfaces.specs.Stars.{starOf}
-use Rattle.walks.specs.Ready.{plusStarRow, readyRows, shotsMask, Starred, Ready}
+use Rattle.ready.specs.Ready.{plusStarRow, readyRows, shotsMask, Starred, Ready}
 
 abbrev pub starring : ℕ → List ℕ → List ℕ → List ℕ → ℕ → List ℕ
 starring n p m s z = starOf n (getD s z 0) (getD p z 0 + getD m z 0)

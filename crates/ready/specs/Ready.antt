@@ -1,21 +1,17 @@
--- What a run has worked out before its first step, and what holds between its steps; src/ready.rt has the rows as constants.
+-- What a run has worked out before its first step; src/core.rt has the rows as constants.
 --
 --   plusStarRow z, minusStarRow z    the rows of the stars of the sides of circuit z
 --   readyRows            the number of rows
 --   shotsMask l z        the shots of circuit z as a mask
 --   Starred l t          those rows hold the stars
 --   Ready l p m t        the arrays p and m hold the masks of the circuits' sides, and the table t all that a test and a flip read
---   Going l p m t c u w  the patch is accepted, all is worked out, and the record w is possible over the table u
 use mathlib.Core.Path.{_≡_}
-use mathlib.Core.Bool.{false}
 use mathlib.Core.List.{List}
 use Prim.Native.Nat.{ℕ, _+_, _*_, _<_, _≤_}
 use lib.ListN.{length}
 use lib.IntN.{ℤ}
 use Rattle.algebra.specs.Words.{rowOf}
-use Rattle.reach.specs.Walks.{WalkRecord, capacityOf, impossible}
 use Rattle.shots.specs.Patch.{countOf}
-use Rattle.shots.specs.Tests.{refusalOf}
 use Rattle.circuits.specs.Sizes.{circuitsMost}
 use Rattle.circuits.specs.Sides.{masks}
 use Rattle.circuits.specs.Numbered.{circuitsOf}
@@ -49,9 +45,3 @@ pub record Ready (l : List ℤ) (plus minus held : List ℕ) : Type 0 where
   pub sides : Sided l plus minus
   pub tests : Prepared l held
   pub stars : Starred l held
-
-pub record Going (l : List ℤ) (plus minus held : List ℕ) (count : ℕ) (table : List ℕ) (walk : WalkRecord) : Type 0 where
-  pub patch : refusalOf l ≡ 0
-  pub ready : Ready l plus minus held
-  pub circuits : count ≡ length (circuitsOf l)
-  pub possible : impossible (capacityOf wordCount (length table)) walk count ≡ false

@@ -2,16 +2,16 @@
 ghost use mathlib.Core.Path.{_≡_};
 ghost use Prim.Native.Nat.{_+_, _*_, _^_, _≤_, _<_};
 ghost use lib.ListN.{length, getD};
-ghost use Rattle.shots.specs.Sizes.{shotsMost};
+ghost use Rattle.shots.specs.Sizes.{shotsMost, maskBits};
 ghost use Rattle.shots.specs.Tests.{refusalOf};
-ghost use Rattle.circuits.specs.Sizes.{maskBits, circuitsMost};
+ghost use Rattle.circuits.specs.Sizes.{circuitsMost};
 ghost use Rattle.circuits.specs.Numbered.{circuitsOf};
 ghost use Rattle.triples.specs.Sizes.{wordCount};
 ghost use Rattle.triples.specs.Sets.{wordsOf, Written, Holding};
 ghost use Rattle.lists.specs.Tests.{listRefusalOf};
 ghost use Rattle.surfaces.specs.Stars.{starOf};
 ghost use Rattle.surfaces.specs.Calls.{readSurface, flipOf};
-ghost use Rattle.walks.specs.Ready.{readyRows, Ready};
+ghost use Rattle.ready.specs.Ready.{readyRows, Ready};
 use circuits::CIRCUITS_MOST;
 use lists::HELD_ROWS;
 use lists::core;
@@ -74,20 +74,13 @@ pub fn flip(
     requires { ⌜ (refusalOf (now shots) ≡ 0) × Ready (now shots) (now plus) (now minus) (now held) × (count ≡ length (circuitsOf (now shots))) × (listRefusalOf (now shots) (wordsOf list) ≡ 0) × (z < count) ⌝ }
     ensures { λ r. ⌜ readSurface r ≡ flipOf (now (shots .entry)) (wordsOf list) z ⌝ }
 {
-    let turned = flips::between(
+    flips::tested(
+        shots,
         held,
-        shots.len() / 2,
+        count,
         plus[z] + minus[z],
         rows::row_at(held, PLUS_STARS + z),
         rows::row_at(held, MINUS_STARS + z),
         list,
-    );
-    if !turned.found {
-        return Surface::Refused(13);
-    }
-    let next = turned.list;
-    if core::refusal(shots, held, count, next) != 0 {
-        return Surface::Refused(14);
-    }
-    Surface::List(next)
+    )
 }
