@@ -3,9 +3,10 @@
 --   placing-bad, placing-good          the result fails the test, or is given
 --   turn-none, turn-bad, turn-good     between two stars: neither is supported; the result fails the test; it is given
 --   flip-stops, flip-unlisted, flip-unnumbered    the shots are refused, the list is; there is no such circuit
---   flip-turned                        what is found between the stars of the circuit's sides
+--   turned-along                       the answer between the stars of the circuit's sides is the flip's
+--   flip-turned                        the same of an answer and stars that the callees gave
 use mathlib.Core.Path.{_≡_, refl, sym, _∙_, ap}
-use mathlib.Core.Bool.{Bool, true, false, not, _||_}
+use mathlib.Core.Bool.{Bool, true, false, not}
 use mathlib.Core.List.{List, [], _∷_, _++_}
 use Prim.Native.Nat.{ℕ, _+_, _≤_, _<_}
 use lib.ListN.{length}
@@ -27,7 +28,7 @@ use Rattle.lists.proofs.ByWords.{accepted-solid}
 use Rattle.lists.proofs.Chains.{list-refused, list-passed}
 use Rattle.surfaces.specs.Flips.{flippedOf}
 use Rattle.surfaces.specs.Placing.{placedOf}
-use Rattle.surfaces.specs.Calls.{badResult, placingOf, noFlip, flipRules, flipOf}
+use Rattle.surfaces.specs.Calls.{badResult, placingOf, flipRules, flipOf}
 use Rattle.surfaces.specs.Stars.{starOf, foundBy, flippedBy, noTurn, turnAnswer}
 use Rattle.surfaces.proofs.ByStars.{found-along, list-along}
 
@@ -104,9 +105,9 @@ module _ (l : List ℤ) (w : List ℕ) (z : ℕ) {r : ℕ} (e : r ≡ refusalOf 
       pub flip-unnumbered : length (circuitsOf l) ≤ z → refuses 12 ≡ flipOf l w z
       flip-unnumbered m = chain-broken (circuitRule l z) _ given (le-leb (length (circuitsOf l)) z m) ∙ behind
 
-      -- p and m are the masks of the circuit's sides, t and u their stars
+      -- p and m are the masks of the circuit's sides; t, u and v are what the callees gave
       module _ (words : Words wordCount w) (low : z < length (circuitsOf l)) (p m : ℕ) (sided : (p ≡ masks (circuitAt l z) .plus) × (m ≡ masks (circuitAt l z) .minus)) where
-        turned-along : turnAnswer l (p + m) (starOf (countOf l) p (p + m)) (starOf (countOf l) m (p + m)) w ≡ flipOf l w z
+        pub turned-along : turnAnswer l (p + m) (starOf (countOf l) p (p + m)) (starOf (countOf l) m (p + m)) w ≡ flipOf l w z
         unfolding turnAnswer
         turned-along =
             let few = patch-few l (sym e ∙ h) .1 in
@@ -114,5 +115,5 @@ module _ (l : List ℤ) (w : List ℕ) (z : ℕ) {r : ℕ} (e : r ≡ refusalOf 
             found-same l _ (found-along l few z low p m sided w words solid) (list-along l few z low p m sided w words solid)
             ∙ chain-kept (circuitRule l z) _ given (lt-leb (length (circuitsOf l)) z low) ∙ behind
 
-        pub flip-turned : {t u : List ℕ} → t ≡ starOf (countOf l) p (p + m) → u ≡ starOf (countOf l) m (p + m) → turnAnswer l (p + m) t u w ≡ flipOf l w z
-        flip-turned a b = (λ j. turnAnswer l (p + m) (a j) (b j) w) ∙ turned-along
+        pub flip-turned : {t u : List ℕ} {v : Answer (List ℕ)} → t ≡ starOf (countOf l) p (p + m) → u ≡ starOf (countOf l) m (p + m) → v ≡ turnAnswer l (p + m) t u w → v ≡ flipOf l w z
+        flip-turned a b d = d ∙ (λ j. turnAnswer l (p + m) (a j) (b j) w) ∙ turned-along

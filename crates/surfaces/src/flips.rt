@@ -6,14 +6,12 @@ ghost use lib.ListN.{length};
 ghost use Rattle.algebra.specs.Words.{clearBit};
 ghost use Rattle.shots.specs.Sizes.{shotsMost, maskBits};
 ghost use Rattle.shots.specs.Patch.{countOf};
-ghost use Rattle.shots.specs.Tests.{refusalOf};
-ghost use Rattle.circuits.specs.Sizes.{circuitsMost};
 ghost use Rattle.circuits.specs.Numbered.{circuitsOf};
 ghost use Rattle.triples.specs.Sizes.{wordCount};
 ghost use Rattle.triples.specs.Sets.{wordsOf, Holding};
-ghost use Rattle.lists.specs.Held.{heldRows, Sided, Prepared};
+ghost use Rattle.lists.specs.Held.{heldRows, Prepared};
 ghost use Rattle.surfaces.specs.Stars.{starOf, linkedOf, linkedAt, supportedBy, turnedBy, foundBy, flippedBy, turnAnswer};
-ghost use Rattle.surfaces.specs.Calls.{readSurface, flipOf};
+ghost use Rattle.surfaces.specs.Calls.{readSurface};
 use super::Surface;
 use lists::core;
 use triples::Triples;
@@ -142,39 +140,4 @@ pub fn tested(
         return Surface::Refused(14);
     }
     Surface::List(next)
-}
-
-// The flip of a list along circuit z, test by test, over what is worked out of a patch.
-pub fn along(
-    shots: &[i32],
-    plus: &[u16],
-    minus: &[u16],
-    held: &[u64],
-    count: usize,
-    list: Triples,
-    z: usize,
-) -> Surface
-    requires { ⌜ (refusalOf (now shots) ≡ 0) × (count ≡ length (circuitsOf (now shots))) × (circuitsMost ≤ length (now plus)) × (circuitsMost ≤ length (now minus)) × Sided (now shots) (now plus) (now minus) × (wordCount * heldRows ≤ length (now held)) × Prepared (now shots) (now held) ⌝ }
-    ensures { λ r. ⌜ readSurface r ≡ flipOf (now (shots .entry)) (wordsOf list) z ⌝ }
-{
-    let number = core::refusal(shots, held, count, list);
-    if number != 0 {
-        return Surface::Refused(number);
-    }
-    if count <= z {
-        return Surface::Refused(12);
-    }
-    let n = shots.len() / 2;
-    let p = plus[z];
-    let m = minus[z];
-    let x = p + m;
-    tested(
-        shots,
-        held,
-        count,
-        x,
-        star(held, n, p, x),
-        star(held, n, m, x),
-        list,
-    )
 }

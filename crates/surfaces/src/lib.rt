@@ -49,5 +49,24 @@ pub fn flip(shots: &[i32], list: Triples, z: usize) -> Surface
     let mut minus = [0u16; CIRCUITS_MOST];
     let mut held = [0u64; HELD_WORDS];
     let count = core::prepare(shots, &mut plus, &mut minus, &mut held);
-    flips::along(shots, &plus, &minus, &held, count, list, z)
+    let number = core::refusal(shots, &held, count, list);
+    if number != 0 {
+        return Surface::Refused(number);
+    }
+    if count <= z {
+        return Surface::Refused(12);
+    }
+    let n = shots.len() / 2;
+    let p = plus[z];
+    let m = minus[z];
+    let x = p + m;
+    flips::tested(
+        shots,
+        &held,
+        count,
+        x,
+        flips::star(&held, n, p, x),
+        flips::star(&held, n, m, x),
+        list,
+    )
 }

@@ -5,7 +5,7 @@ use mathlib.Core.List.{List}
 use Prim.Native.Nat.{ℕ}
 use borrow.Author.Needs.{needs}
 use Rattle.triples.specs.Sets.{wordsOf}
-use Rattle.surfaces.specs.Stars.{supportedBy, turnedBy}
+use Rattle.surfaces.specs.Stars.{supportedBy, turnedBy, foundBy, flippedBy}
 use Rattle.surfaces.proofs.flips.between.Statement.{statement}
 use Rattle.surfaces.proofs.flips.between.Tie as tie
 
@@ -22,11 +22,11 @@ module _ (t u w : List ℕ) where
 -- what comes of the plus side's pieces, of the minus side's
 module _ (n x : ℕ) (p m w : List ℕ) where
   by-first : {r : Bool} {v : List ℕ} → r ≡ true → (r ≡ supportedBy n x p w) × (v ≡ cond (supportedBy n x p w) (turnedBy n x p m w) w)
-      → (r ≡ (supportedBy n x p w || supportedBy n x m w)) × (v ≡ cond (supportedBy n x p w) (turnedBy n x p m w) (cond (supportedBy n x m w) (turnedBy n x m p w) w))
+      → (r ≡ foundBy n x p m w) × (v ≡ flippedBy n x p m w)
   by-first = first-taken (turnedBy n x p m w) (turnedBy n x m p w) w (supportedBy n x p w) (supportedBy n x m w)
 
   by-second : {r s : Bool} {v : List ℕ} → r ≡ false → r ≡ supportedBy n x p w → (s ≡ supportedBy n x m w) × (v ≡ cond (supportedBy n x m w) (turnedBy n x m p w) w)
-      → (s ≡ (supportedBy n x p w || supportedBy n x m w)) × (v ≡ cond (supportedBy n x p w) (turnedBy n x p m w) (cond (supportedBy n x m w) (turnedBy n x m p w) w))
+      → (s ≡ foundBy n x p m w) × (v ≡ flippedBy n x p m w)
   by-second = second-taken (turnedBy n x p m w) (turnedBy n x m p w) w (supportedBy n x p w) (supportedBy n x m w)
 
 returns : tie.Need-returns
