@@ -134,6 +134,7 @@ module _ {g : Ground} (sound : Sound g) (r₀ : List ℕ) where
         let k = walk-closed h in
         record {
           possible = (k .0 .some, k .1, k .0 .below);
+          first = k .0 .first;
           once = k .0 .once;
           reached = k .0 .reached;
           neighbours = closed-neighbours (k .0);

@@ -7,6 +7,7 @@
 --                         in between the rows in use may have moved to any table that has room for them
 --   Listing g r₀ t w      the promise at any time:
 --     possible            there is a row, there is room for the rows, and step ≤ rows × C
+--     first               the first row is r₀
 --     once, reached       the rows in use differ from each other, and each is reached from r₀ by flips
 --     neighbours          once (p + 1) × C ≤ step, every flip of row p is one of the rows
 --     done-at             a step answers done exactly at step = rows × C
@@ -45,6 +46,7 @@ pub data Walked (g : Ground) (r₀ : List ℕ) : List ℕ → WalkRecord → Typ
 
 pub record Listing (g : Ground) (r₀ t : List ℕ) (w : WalkRecord) : Type 0 where
   pub possible : (0 < w .rows) × (w .rows ≤ capacityOf (g .words) (length t)) × (w .step ≤ w .rows * g .circuits)
+  pub first : rowOf (g .words) t 0 ≡ r₀
   pub once : (p q : ℕ) → p < q → q < w .rows → rowOf (g .words) t p ≡ rowOf (g .words) t q → ⊥
   pub reached : (p : ℕ) → p < w .rows → Reach (g .circuits) (FlipsTo g) r₀ (rowOf (g .words) t p)
   pub neighbours : (p z : ℕ) (r : List ℕ) → (p + 1) * g .circuits ≤ w .step → z < g .circuits → FlipsTo g (rowOf (g .words) t p) z r → Stands (g .words) t (w .rows) r

@@ -1,6 +1,6 @@
 // What a run works out once: all that the test and the flip of a row read of a patch.
 ghost use mathlib.Core.Path.{_≡_};
-ghost use Prim.Native.Nat.{_+_, _*_, _^_, _≤_, _<_};
+ghost use Prim.Native.Nat.{ℕ, _+_, _*_, _^_, _≤_, _<_};
 ghost use lib.ListN.{length, getD};
 ghost use Rattle.shots.specs.Sizes.{shotsMost, maskBits};
 ghost use Rattle.shots.specs.Tests.{refusalOf};
@@ -38,7 +38,7 @@ fn stars(
     first: usize,
     held: &mut [u64],
 )
-    requires { ⌜ (n ≤ shotsMost) × (n ≤ first) × Holding n (now held) × (count ≤ length (now plus)) × (count ≤ length (now minus)) × (count ≤ length (now side)) × (wordCount * (first + count) ≤ length (now held)) × ((z : _) → z < count → getD (now plus) z 0 + getD (now minus) z 0 < 2 ^ maskBits) ⌝ }
+    requires { ⌜ (n ≤ shotsMost) × (n ≤ first) × Holding n (now held) × (count ≤ length (now plus)) × (count ≤ length (now minus)) × (count ≤ length (now side)) × (wordCount * (first + count) ≤ length (now held)) × ((z : ℕ) → z < count → getD (now plus) z 0 + getD (now minus) z 0 < 2 ^ maskBits) ⌝ }
     ensures { λ r. ⌜ Written first count (λ z. starOf n (getD (now (side .entry)) z 0) (getD (now (plus .entry)) z 0 + getD (now (minus .entry)) z 0)) (now (held .entry)) (now (held .exit)) ⌝ }
 {
     let mut z = 0;

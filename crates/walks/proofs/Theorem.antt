@@ -68,6 +68,7 @@ module _ (l : List ℤ) where
 module _ (l : List ℤ) (w₀ : List ℕ) (v₀ : Words wordCount w₀) where
   pub walk-surfaces : (t : List ℕ) (r : WalkRecord) → Walked (plane l) w₀ t r → Surfaces l w₀ t r
   walk-surfaces t r h = record {
+    first = listing .first;
     accepted = λ p m. kept p m .0;
     one-area = λ p m. kept p m .2;
     once = listing .once;

@@ -3,6 +3,7 @@
 --   PublishedFlip l w z w′   w′ is an accepted list, and the published flip of w along circuit z
 --   Reachable l w₀ w         w is reached from w₀ by published flips along the patch's circuits
 --   Surfaces l w₀ t r        the promise, for a table t and a record r that a start from w₀ and its walk's steps and runs have written:
+--     first                  the first row is w₀
 --     accepted               each row is a triangulation of the patch
 --     one-area               all rows have one total double area
 --     once                   no two rows are the same
@@ -39,6 +40,7 @@ abbrev pub Reachable : List ℤ → List ℕ → List ℕ → Type 0
 Reachable l w₀ w = Reach (length (circuitsOf l)) (PublishedFlip l) w₀ w
 
 pub record Surfaces (l : List ℤ) (w₀ t : List ℕ) (r : WalkRecord) : Type 0 where
+  pub first : rowOf wordCount t 0 ≡ w₀
   pub accepted : (p : ℕ) → p < r .rows → Accepted l (rowOf wordCount t p)
   pub one-area : (p : ℕ) → p < r .rows → areaSumOf l (rowOf wordCount t p) ≡ areaSumOf l w₀
   pub once : (p q : ℕ) → p < q → q < r .rows → rowOf wordCount t p ≡ rowOf wordCount t q → ⊥

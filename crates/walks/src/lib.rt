@@ -11,8 +11,8 @@ ghost use Rattle.walks.specs.Calls.{startLanding, stepLanding, afterStar
 use circuits::CIRCUITS_MOST;
 use triples::Triples;
 
-pub mod steps;
-pub mod table;
+mod steps;
+mod table;
 
 // The walk record: how many rows of the table are in use, and the number of the next step.
 pub struct Walk {
