@@ -1,6 +1,6 @@
 // Steps over what a run has worked out: the shots and the record are tested before, a row is tested once.
 ghost use mathlib.Core.Path.{_≡_};
-ghost use Prim.Native.Nat.{_*_, _-_, _/_, _%_, _≤_, _<_, min};
+ghost use Prim.Native.Nat.{_*_, _-_, _/_, _%_, _≤_, _<_};
 ghost use Rattle.algebra.specs.Words.{rowOf};
 ghost use Rattle.reach.specs.Walks.{stepOf, stepsOf};
 ghost use Rattle.triples.specs.Sizes.{wordCount};
@@ -102,16 +102,6 @@ fn along(
     }
 }
 
-// The smaller number.
-fn least(a: usize, b: usize) -> usize
-    ensures { λ r. ⌜ r ≡ min a b ⌝ }
-{
-    if a < b {
-        return a;
-    }
-    b
-}
-
 // The next b steps: row by row, each tested before its first one.
 pub fn several(
     shots: &[i32],
@@ -147,7 +137,7 @@ pub fn several(
                 walk: now,
             };
         }
-        let turn = least(b - k, count - now.step % count);
+        let turn = table::least(b - k, count - now.step % count);
         let out = along(shots, plus, minus, held, count, table, now, turn, row);
         let answer = out.answer;
         if !made(answer) {

@@ -1,6 +1,6 @@
 // The table of rows and the walk record over it.
 ghost use mathlib.Core.Path.{_≡_};
-ghost use Prim.Native.Nat.{_*_, _≤_, _<_};
+ghost use Prim.Native.Nat.{_*_, _≤_, _<_, min};
 ghost use lib.ListN.{length};
 ghost use Rattle.reach.specs.Walks.{rowsMost, capacityOf, seenIn, storeOf};
 ghost use Rattle.circuits.specs.Sizes.{circuitsMost};
@@ -17,15 +17,22 @@ use triples::rows;
 // A walk uses at most this many rows.
 pub const ROWS_MOST: usize = 65535;
 
+// The smaller number.
+pub fn least(a: usize, b: usize) -> usize
+    ensures { λ r. ⌜ r ≡ min a b ⌝ }
+{
+    if a < b {
+        return a;
+    }
+    b
+}
+
 // The whole rows of a table of so many words, at most ROWS_MOST.
 pub fn capacity(words: usize) -> usize
     ensures { λ r. ⌜ r ≡ capacityOf wordCount words ⌝ }
 {
     let whole = words / WORDS;
-    if whole < ROWS_MOST {
-        return whole;
-    }
-    ROWS_MOST
+    least(whole, ROWS_MOST)
 }
 
 // Whether no walk over so many rows and circuits has this record. The product is taken once the rows are known to be few.
