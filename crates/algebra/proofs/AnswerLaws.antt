@@ -6,8 +6,14 @@
 --   given-refused   a value is no refusal
 --   one-answer      two answers with one reading are one answer
 --   chain-broken, chain-kept, chain-stop, chain-after    what a sequence of tests in the code says of its chain
+--   chain-stops, chain-goes                 what a first part, known by its answer, says of a longer chain
 --   refusal-keeps   where the number of the first broken rule is 0, the rules are kept
---   clear-refusal   and it is 0 exactly when no line holds
+--   Unbroken rs     no rule of rs is broken
+--   unbroken-gives, gives-unbroken          so it is exactly where a chain gives its value
+--   unbroken-refusal, refusal-unbroken      and where that number is 0
+--   unbroken-append, append-unbroken        rules joined
+--   unbroken-after                          behind them a chain goes on
+--   clear-refusal   the number of the first broken rule is 0 exactly when no line holds
 --   first-clear, first-one    a table with a first line that holds is not clear, and its number is one
 --   decides-append, first-append, clear-append    tables joined
 --   reflects-*      tests that decide what is made of statements
@@ -109,7 +115,7 @@ module _ {A : Type 0} where
   unfolding chain
   chain-kept r rs v e = rw e
 
-  -- a first part of the chain whose number is known: it stops there, or goes on behind it
+  -- a first part of the chain whose number is known
   pub chain-stop : (rs ss : List Rule) (v : A) → (refusal rs ≡ 0 → ⊥) → refuses (refusal rs) ≡ chain (rs ++ ss) v
   unfolding chain refusal
   chain-stop [] ss v h = absurd (h refl)
@@ -119,17 +125,15 @@ module _ {A : Type 0} where
       go true e ih = refl
       go false e ih = ih (λ z. h (rw e z))
 
-  pub chain-after : (rs ss : List Rule) (v : A) → Numbered rs → refusal rs ≡ 0 → chain ss v ≡ chain (rs ++ ss) v
-  unfolding chain refusal
-  chain-after [] ss v p h = refl
-  chain-after (r ∷ rs) ss v p h = go (r .broken) refl (chain-after rs ss v (p .1))
+  -- a first part whose answer is known, for whatever value
+  pub chain-stops : {B : Type 0} (rs ss : List Rule) (u : B) (v : A) {n : ℕ} → chain rs u ≡ refuses n → refuses n ≡ chain (rs ++ ss) v
+  unfolding chain
+  chain-stops [] ss u v e = given-refused e
+  chain-stops (r ∷ rs) ss u v {n} e = go (r .broken) refl (chain-stops rs ss u v)
     where
-      go : (b : Bool) → r .broken ≡ b → (refusal rs ≡ 0 → chain ss v ≡ chain (rs ++ ss) v) → chain ss v ≡ cond b (refuses (r .number)) (chain (rs ++ ss) v)
-      go true e ih = absurd (clash (rw e at h))
-        where
-          clash : r .number ≡ 0 → ⊥
-          clash z = omega (arith, p .0)
-      go false e ih = ih (rw e at h)
+      go : (b : Bool) → r .broken ≡ b → (chain rs u ≡ refuses n → refuses n ≡ chain (rs ++ ss) v) → refuses n ≡ cond b (refuses (r .number)) (chain (rs ++ ss) v)
+      go true q ih = ap refuses (sym (refuses-one (rw q at e)))
+      go false q ih = ih (rw q at e)
 
 -- the number of the first broken rule decides whether a rule is broken
 pub refusal-keeps : (r : Rule) (rs : List Rule) → 0 < r .number → refusal (r ∷ rs) ≡ 0 → (r .broken ≡ false) × (refusal rs ≡ 0)
@@ -143,7 +147,55 @@ refusal-keeps r rs p h = go (r .broken) refl
         clash z = omega arith
     go false e = (e, rw e at h)
 
--- no line holds where that number is 0
+-- ---- no rule is broken
+
+abbrev pub Unbroken : List Rule → Type 0
+Unbroken [] = Unit {0}
+Unbroken (r ∷ rs) = (r .broken ≡ false) × Unbroken rs
+
+pub unbroken-refusal : (rs : List Rule) → Unbroken rs → refusal rs ≡ 0
+unfolding refusal
+unbroken-refusal [] u = refl
+unbroken-refusal (r ∷ rs) u = rw (u .0) (unbroken-refusal rs (u .1))
+
+pub refusal-unbroken : (rs : List Rule) → Numbered rs → refusal rs ≡ 0 → Unbroken rs
+refusal-unbroken [] p e = tt
+refusal-unbroken (r ∷ rs) p e = let k = refusal-keeps r rs (p .0) e in (k .0, refusal-unbroken rs (p .1) (k .1))
+
+pub unbroken-append : (rs ss : List Rule) → Unbroken rs → Unbroken ss → Unbroken (rs ++ ss)
+unbroken-append [] ss u v = v
+unbroken-append (r ∷ rs) ss u v = (u .0, unbroken-append rs ss (u .1) v)
+
+pub append-unbroken : (rs ss : List Rule) → Unbroken (rs ++ ss) → Unbroken rs × Unbroken ss
+append-unbroken [] ss u = (tt, u)
+append-unbroken (r ∷ rs) ss u = let v = append-unbroken rs ss (u .1) in ((u .0, v .0), v .1)
+
+module _ {A : Type 0} where
+  pub unbroken-gives : (rs : List Rule) (v : A) → Unbroken rs → chain rs v ≡ gives v
+  unfolding chain
+  unbroken-gives [] v u = refl
+  unbroken-gives (r ∷ rs) v u = sym (chain-kept r rs v (u .0)) ∙ unbroken-gives rs v (u .1)
+
+  pub gives-unbroken : (rs : List Rule) (v w : A) → chain rs v ≡ gives w → Unbroken rs × (v ≡ w)
+  unfolding chain
+  gives-unbroken [] v w e = (tt, gives-one e)
+  gives-unbroken (r ∷ rs) v w e = go (r .broken) e (gives-unbroken rs v w)
+    where
+      go : (b : Bool) → cond b (refuses (r .number)) (chain rs v) ≡ gives w → (chain rs v ≡ gives w → Unbroken rs × (v ≡ w)) → ((b ≡ false) × Unbroken rs) × (v ≡ w)
+      go true q ih = given-refused (sym q)
+      go false q ih = let s = ih q in ((refl, s .0), s .1)
+
+  pub unbroken-after : (rs ss : List Rule) (v : A) → Unbroken rs → chain ss v ≡ chain (rs ++ ss) v
+  unbroken-after [] ss v u = refl
+  unbroken-after (r ∷ rs) ss v u = unbroken-after rs ss v (u .1) ∙ chain-kept r (rs ++ ss) v (u .0)
+
+  pub chain-after : (rs ss : List Rule) (v : A) → Numbered rs → refusal rs ≡ 0 → chain ss v ≡ chain (rs ++ ss) v
+  chain-after rs ss v p h = unbroken-after rs ss v (refusal-unbroken rs p h)
+
+pub chain-goes : {A B : Type 0} (rs ss : List Rule) (u : A) (v : B) {w : A} → chain rs u ≡ gives w → chain ss v ≡ chain (rs ++ ss) v
+chain-goes rs ss u v {w} e = unbroken-after rs ss v (gives-unbroken rs u w e .0)
+
+-- no line holds where the number of the first broken rule is 0
 pub clear-refusal : (rs : List Rule) (ls : List Line) → Numbered rs → Decides rs ls → (refusal rs ≡ 0) ↔ Clear ls
 unfolding refusal
 clear-refusal [] [] p d = (λ e. tt, λ c. refl)

@@ -14,3 +14,4 @@ pub mod BitOps
 pub mod SetTests
 pub mod UnionLaws
 pub mod WordLaws
+pub mod WritingLaws

@@ -4,3 +4,4 @@ pub mod Sets
 pub mod Sign
 pub mod Sum
 pub mod Words
+pub mod Writing

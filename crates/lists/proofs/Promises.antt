@@ -3,6 +3,7 @@
 --   shots-kept       no line of the shots holds: the patch is accepted
 --   test-refuses     a refusal number exactly when its line is the first that holds
 --   test-accepts     accepted exactly when the patch is, the list has no bit past the last rank, and its triples are a triangulation in the published sense
+--   tested-right     a list that is accepted is one of a patch that is
 --   test-one         two permitted answers are the same
 --   never-empty      a list without a triple is never accepted
 --
@@ -64,6 +65,9 @@ module _ (l : List ℤ) (w : List ℕ) where
     where
       clear : Clear (testLines l w) ↔ (Clear (shotLines l) × Clear (listLines l w))
       clear = clear-append (shotLines l) (listLines l w)
+
+  pub tested-right : testOf l w ≡ gives tt → refusalOf l ≡ 0
+  tested-right e = shots-kept l (test-accepts .0 e .0)
 
   pub test-one : (r r′ : Tested) → readTested r ≡ testOf l w → readTested r′ ≡ testOf l w → r ≡ r′
   test-one r r′ = one-answer readTested testedAs tested-back

@@ -186,7 +186,7 @@ module _ (g : Ground) (t : List ℕ) (w : WalkRecord) where
 pub done-made : {X : Type 0} → _≡_ {A = Answer Reply} (gives done) (gives made) → X
 done-made e = let z : _≡_ {A = ℕ} 0 1 = cc in absurd (omega arith)
 
-started-made : {X : Type 0} → _≡_ {A = Answer Reply} (gives started) (gives made) → X
+pub started-made : {X : Type 0} → _≡_ {A = Answer Reply} (gives started) (gives made) → X
 started-made e = let z : _≡_ {A = ℕ} 0 1 = cc in absurd (omega arith)
 
 started-done : {X : Type 0} → _≡_ {A = Answer Reply} (gives started) (gives done) → X

@@ -9,11 +9,13 @@
 --   lastOf e           all that is left where it ends
 --   ends-from-start    from the start, done comes after exactly rows × C steps
 --   run-ends           a run that is long enough does not answer made
+--   run-done           one that answers done has made rows × C steps
+--   run-never-started  no run answers started
 --   row-kept           what the first row has and every flip keeps, each row has
 --
 -- Source: demand 3; document 01, "The walk".
 use mathlib.Core.Path.{_≡_, refl, sym, ap, _∙_}
-use mathlib.Core.Logic.{⊎-elim}
+use mathlib.Core.Logic.{_⊎_, inl, inr, ⊎-elim}
 use mathlib.Core.Bool.{Bool, true, false}
 use mathlib.Core.List.{List}
 use Prim.Native.Nat.{ℕ, zero, suc, _+_, _*_, _/_, _%_, _<_, _≤_}
@@ -30,7 +32,7 @@ use Rattle.reach.specs.Reach.{Closed}
 use Rattle.reach.specs.Walked.{FlipsTo, Sound, Walked, starts, steps, runs, moves, Listing, Ends}
 use Rattle.reach.proofs.ReachLaws.{reach-kept, closed-start, closed-moved, closed-count, closed-new, closed-neighbours, closed-whole}
 use Rattle.reach.proofs.StepLaws.{room-for, seen-stands, unseen, possible-holds, step-passed, run-passed, try-done, try-flip, after-none, after-refused, store-known, store-full, store-new}
-use Rattle.reach.proofs.StepLaws.{start-facts, step-stops, done-end}
+use Rattle.reach.proofs.StepLaws.{start-facts, step-stops, done-end, done-made, started-made, step-never-started}
 use Rattle.reach.proofs.RunLaws.{steps-none, steps-first, steps-count, Stood, steps-stand}
 
 -- ---- any walk
@@ -162,6 +164,20 @@ module _ {g : Ground} (sound : Sound g) (r₀ : List ℕ) where
 
     pub run-ends : {t : List ℕ} {w : WalkRecord} → Walked g r₀ t w → (b : ℕ) → rowsMost * g .circuits < w .step + b → runOf g t w b .answer ≡ gives made → ⊥
     run-ends {t} {w} h b l e = let m = steps-most h b (rw (run-is-steps t w b (walk-closed h)) at e) in omega arith
+
+    -- a run that is not only made answers what one more step would
+    run-last : {t : List ℕ} {w : WalkRecord} → Walked g r₀ t w → (b : ℕ)
+        → (runOf g t w b .answer ≡ gives made) ⊎ (runOf g t w b .answer ≡ stepOf g (runOf g t w b .table) (runOf g t w b .walk) .answer)
+    run-last {t} {w} h b = rw (run-is-steps t w b (walk-closed h)) (go (steps-stand g b t w))
+      where
+        go : Stood g t w b (stepsOf g b t w) → (stepsOf g b t w .answer ≡ gives made) ⊎ (stepsOf g b t w .answer ≡ stepOf g (stepsOf g b t w .table) (stepsOf g b t w .walk) .answer)
+        go s = ⊎-elim (λ p. inl (p .1)) (λ p. inr (p .0 ∙ (λ k. stepOf g (sym (s .table-is) k) (sym (s .walk-is) k) .answer))) (s .answer-is)
+
+    pub run-done : {t : List ℕ} {w : WalkRecord} → Walked g r₀ t w → (b : ℕ) → runOf g t w b .answer ≡ gives done → runOf g t w b .walk .step ≡ runOf g t w b .walk .rows * g .circuits
+    run-done h b e = ⊎-elim (λ p. done-made (sym e ∙ p)) (λ p. done-end g _ _ (sym p ∙ e)) (run-last h b)
+
+    pub run-never-started : {t : List ℕ} {w : WalkRecord} → Walked g r₀ t w → (b : ℕ) → runOf g t w b .answer ≡ gives started → ⊥
+    run-never-started h b e = ⊎-elim (λ p. started-made (sym e ∙ p)) (λ p. step-never-started g _ _ (sym p ∙ e)) (run-last h b)
 
     pub walk-ends : {t : List ℕ} {w : WalkRecord} → Walked g r₀ t w → Ends g t w
     walk-ends {t} {w} h = go (steps-stand g (rowsMost * g .circuits + 1) t w)

@@ -6,6 +6,7 @@
 --   OneLine l            4: all shots on one line
 --   NotShot l i          a number that is not a shot
 --   NotPair l i j        a pair with a number that is not a shot, or not in order
+--   placeLines           the lines 2, 3, 4
 --   shotLines, orientationLines, cocircuitLines    the tables of the calls
 --
 -- The theorems that each call gives each number exactly when its line is the first that holds: proofs/Promises.
@@ -39,13 +40,15 @@ NotShot l i = countOf l ≤ i
 abbrev pub NotPair : List ℤ → ℕ → ℕ → Type 0
 NotPair l i j = NotShot l i ⊎ (NotShot l j ⊎ (j ≤ i))
 
-abbrev pub shotLines : List ℤ → List Line
-shotLines l =
-    record { number = 1; when = BadCount l }
-    ∷ record { number = 2; when = Beyond l }
+abbrev pub placeLines : List ℤ → List Line
+placeLines l =
+    record { number = 2; when = Beyond l }
     ∷ record { number = 3; when = Repeated l }
     ∷ record { number = 4; when = OneLine l }
     ∷ []
+
+abbrev pub shotLines : List ℤ → List Line
+shotLines l = record { number = 1; when = BadCount l } ∷ placeLines l
 
 abbrev pub orientationLines : List ℤ → ℕ → ℕ → ℕ → List Line
 orientationLines l a b c = shotLines l ++ record { number = 7; when = NotShot l a ⊎ (NotShot l b ⊎ NotShot l c) } ∷ []

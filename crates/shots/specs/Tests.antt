@@ -4,6 +4,7 @@
 --   someFar l      a coordinate beyond its range
 --   someSame l     two shots equal
 --   someBent l     three shots that are not on one line
+--   placeRules l   the rules 2, 3, 4
 --   shotRules l    the four rules, in order
 --   refusalOf l    the number that refuses the run, 0 where it is accepted
 --   Near l         every coordinate is within its range
@@ -55,13 +56,15 @@ bentBefore l c = any c (bentOf l c)
 unfoldable pub someBent : List ℤ → Bool
 someBent l = any (countOf l) (bentBefore l)
 
-abbrev pub shotRules : List ℤ → List Rule
-shotRules l =
-    record { number = 1; broken = badCount l }
-    ∷ record { number = 2; broken = someFar l }
+abbrev pub placeRules : List ℤ → List Rule
+placeRules l =
+    record { number = 2; broken = someFar l }
     ∷ record { number = 3; broken = someSame l }
     ∷ record { number = 4; broken = not (someBent l) }
     ∷ []
+
+abbrev pub shotRules : List ℤ → List Rule
+shotRules l = record { number = 1; broken = badCount l } ∷ placeRules l
 
 unfoldable pub refusalOf : List ℤ → ℕ
 refusalOf l = refusal (shotRules l)

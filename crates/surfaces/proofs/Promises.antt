@@ -7,8 +7,9 @@
 --   flip-published                   a flip is given exactly when the published flip leads from an accepted list to an accepted one, and it is that flip
 --   not-both-sides                   an accepted list supports the pieces of at most one side
 --   put-in-new-here                  what a flip puts in was not in the list
---   flip-words                       the list given has as many words
+--   flip-words, placing-words        the list given has as many words
 --   flip-back-again                  the flip along the same circuit leads back
+--   surface-one              what is read as one answer is one
 --   flip-one, placing-one    two permitted answers are the same
 --
 -- That the pieces, links and stars are the published ones: proofs/Agreement. Source: document 01, "Flips", "The placing surface".
@@ -16,21 +17,21 @@ use mathlib.Core.Path.{_≡_, refl, sym, _∙_, subst}
 use mathlib.Core.Logic.{inl, inr, ⊎-elim, _↔_}
 use mathlib.Core.Bool.{Bool, true, false, not, cond, _||_}
 use mathlib.Core.List.{List, [], _∷_, _++_}
-use Prim.Native.Nat.{ℕ, _*_, _≤_, _<_}
+use Prim.Native.Nat.{ℕ, zero, suc, _*_, _≤_, _<_}
 use native.Mathlib.Omega.{arith}
 use native.Mathlib.Decide.{decLt}
 use lib.Dec.{eqb}
 use lib.ListN.{length, List·getD-eq-default}
 use lib.IntN.{ℤ}
 use Rattle.algebra.specs.Answer.{Answer, gives, refuses, refusal, Line, First, Clear, Reflects, holds, fails, Decides}
-use Rattle.algebra.specs.Loops.{anyOf}
+use Rattle.algebra.specs.Loops.{anyOf, fold}
 use Rattle.algebra.specs.Sets.{isOn}
 use Rattle.algebra.specs.Sign.{Sign, minus, nought, plus, opposite, Side}
 use Rattle.algebra.specs.Words.{wordBits, Words, member}
 use Rattle.algebra.proofs.AnswerLaws.{one-answer, chain-refuses-upon, chain-gives-upon, clear-refusal, decides-append, clear-append}
 use Rattle.algebra.proofs.AnswerLaws.{reflects-yes, reflects-true, reflects-false, reflects-stable, reflects-iff, reflects-not, reflects-or, reflects-eqb, reflects-leb}
 use Rattle.algebra.proofs.SignLaws.{plus-nought, minus-nought, other-side, nought-side}
-use Rattle.algebra.proofs.WordLaws.{member-past}
+use Rattle.algebra.proofs.WordLaws.{member-past, put-words}
 use Rattle.matroid.specs.Flips.{Supports, Flip, Flipped}
 use Rattle.matroid.proofs.FlipLaws.{not-both, put-in-new, flip-back}
 use Rattle.shots.specs.Patch.{countOf}
@@ -48,10 +49,11 @@ use Rattle.triples.specs.Ranks.{tripleCount, tripleAt}
 use Rattle.lists.specs.Tests.{listRules, listRefusalOf}
 use Rattle.lists.specs.Lines.{Listed, PastLast, listLines}
 use Rattle.triples.proofs.RankLaws.{triples-few}
+use Rattle.triples.proofs.SiftLaws.{none-words}
 use Rattle.lists.proofs.Agreement.{list-decided, accepted-iff-triangulation}
 use Rattle.lists.proofs.Promises.{shots-kept}
 use Rattle.surfaces.specs.Flips.{piecesOf, someLink, supports, joins, exchanged, flippedOf}
-use Rattle.surfaces.specs.Placing.{placedOf}
+use Rattle.surfaces.specs.Placing.{firstOff, beginOf, visible, withEdge, withEdges, placeShot, placeNext, placedOf}
 use Rattle.surfaces.specs.Lines.{Accepted, signsOf, NoFlip, BadFlip, flipLines, placingLines}
 use Rattle.surfaces.specs.Calls.{readSurface, badResult, placingOf, noFlip, flipRules, flipOf}
 use Rattle.surfaces.specs.declared.Surface.{Surface}
@@ -250,6 +252,34 @@ module _ (l : List ℤ) where
       = λ s d. flip-back (a .1) (a′ .1) (circuit-published l (shots-kept l c) z h) d (star-dec (numbered l z h) w s s d d) in
       flip-published w′ w z v′ v .1 (c, a′, h, ⊎-elim (λ g. inr (back plus (inl refl) g)) (λ g. inl (back minus (inr refl) g)) f, a)
 
+-- ---- the words of a placing surface
+
+fold-words : (f : ℕ → List ℕ → List ℕ) → ((i : ℕ) (w : List ℕ) → Words wordCount w → Words wordCount (f i w)) → (w : List ℕ) (n : ℕ) → Words wordCount w → Words wordCount (fold f w n)
+unfolding fold
+fold-words f h w zero v = v
+fold-words f h w (suc n) v = h n (fold f w n) (fold-words f h w n v)
+
+cond-words : (b : Bool) (u w : List ℕ) → Words wordCount u → Words wordCount w → Words wordCount (cond b u w)
+cond-words true u w p q = p
+cond-words false u w p q = q
+
+module _ (l : List ℤ) where
+  edge-words : (w : List ℕ) (m j i : ℕ) (u : List ℕ) → Words wordCount u → Words wordCount (withEdge l w m j i u)
+  unfolding withEdge
+  edge-words w m j i u v = cond-words (visible l w m i j) _ u (put-words wordCount u _ v) v
+
+  edges-words : (w : List ℕ) (m j : ℕ) (u : List ℕ) → Words wordCount u → Words wordCount (withEdges l w m j u)
+  unfolding withEdges
+  edges-words w m j u v = fold-words (withEdge l w m j) (edge-words w m j) u j v
+
+  next-words : (m : ℕ) (w : List ℕ) → Words wordCount w → Words wordCount (placeNext l m w)
+  unfolding placeNext placeShot
+  next-words m w v = cond-words (eqb m 0 || (eqb m 1 || eqb m (firstOff l))) w (placeShot l w m) v (fold-words (withEdges l w m) (edges-words w m) w (countOf l) v)
+
+  pub placing-words : (w : List ℕ) → placingOf l ≡ gives w → Words wordCount w
+  unfolding placedOf beginOf
+  placing-words w e = subst (Words wordCount) (placing-gives l w .0 e .1) (fold-words (placeNext l) next-words (beginOf l) (countOf l) (put-words wordCount _ _ (none-words wordCount)))
+
 -- ---- one answer
 
 abbrev surfaceAs : Answer (List ℕ) → Surface
@@ -262,8 +292,11 @@ surface-back : (r : Surface) → surfaceAs (readSurface r) ≡ r
 surface-back (S.List t) = refl
 surface-back (S.Refused n) = refl
 
+pub surface-one : {x : Answer (List ℕ)} {r r′ : Surface} → readSurface r ≡ x → readSurface r′ ≡ x → r ≡ r′
+surface-one = one-answer readSurface surfaceAs surface-back
+
 pub flip-one : (l : List ℤ) (w : List ℕ) (z : ℕ) (r r′ : Surface) → readSurface r ≡ flipOf l w z → readSurface r′ ≡ flipOf l w z → r ≡ r′
-flip-one l w z r r′ = one-answer readSurface surfaceAs surface-back
+flip-one l w z r r′ = surface-one
 
 pub placing-one : (l : List ℤ) (r r′ : Surface) → readSurface r ≡ placingOf l → readSurface r′ ≡ placingOf l → r ≡ r′
-placing-one l r r′ = one-answer readSurface surfaceAs surface-back
+placing-one l r r′ = surface-one

@@ -1,6 +1,7 @@
 -- Triples and their ranks: each triple has one rank, each rank one triple, in lexicographic order.
 --
 --   triple-at-within    what has a rank is a triple of the shots
+--   triple-shots        its three numbers are shots
 --   triple-past, past-off    past the last rank there is none, and no shot is in it
 --   rank-of-triple      the rank of the triple of rank r is r
 --   triple-of-rank      the triple s has a rank, and the triple of that rank is s
@@ -9,10 +10,10 @@
 --   rank-room           the words of a list have room for every rank
 --
 -- Source: document 01, "What a surface is".
-use mathlib.Core.Path.{_≡_, refl, ap}
+use mathlib.Core.Path.{_≡_, refl, sym, ap, subst}
 use mathlib.Core.Logic.{_↔_}
 use mathlib.Core.Bool.{true, false}
-use mathlib.Core.List.{List, []}
+use mathlib.Core.List.{List, [], _∷_}
 use Prim.Native.Nat.{ℕ, _+_, _*_, _<_, _≤_}
 use native.Mathlib.Omega.{arith}
 use lib.Dec.{leb}
@@ -30,6 +31,11 @@ use Rattle.triples.specs.Ranks.{triplesOf, tripleCount, tripleAt, rankOf
 pub triple-at-within : (n r : ℕ) → r < tripleCount n → Within 0 (tripleAt n r) n × (length (tripleAt n r) ≡ 3)
 unfolding tripleCount tripleAt
 triple-at-within n r h = set-at 3 n r h
+
+pub triple-shots : (n r : ℕ) {i j k : ℕ} → r < tripleCount n → i ∷ j ∷ k ∷ [] ≡ tripleAt n r → (i < n) × (j < n) × (k < n)
+triple-shots n r {i} {j} {k} h e =
+    let w : Within 0 (i ∷ j ∷ k ∷ []) n = subst (λ (s : List ℕ). Within 0 s n) (sym e) (triple-at-within n r h .0) in
+    (w .1, w .2 .1, w .2 .2 .1)
 
 pub triple-past : (n r : ℕ) → tripleCount n ≤ r → tripleAt n r ≡ []
 unfolding tripleCount tripleAt

@@ -3,6 +3,7 @@
 --   wordsOf t           the words of the code's set
 --   fullOf n            every triple of n shots
 --   holdersOf n k       the triples that hold shot k
+--   sizeOf n w          how many triples of n shots are in w
 --   maskOn n x s        every shot of the mask x is in s
 --   aroundOf n x w      those of w that hold every shot of the mask x
 --   Rows t k f          row p of the table t holds f p, for each p below k
@@ -10,12 +11,12 @@
 --   Written a k f t u   u is t with f p written to row a + p, for each p below k; the rows below a stay
 --   Holding n t         row k holds the holders of shot k
 use mathlib.Core.Path.{_≡_}
-use mathlib.Core.Bool.{Bool, not, _||_, _&&_}
+use mathlib.Core.Bool.{Bool, not, cond, _||_, _&&_}
 use mathlib.Core.List.{List, [], _∷_}
 use Prim.Native.Nat.{ℕ, _+_, _<_}
 use lib.Dec.{ltb}
 use lib.ListN.{length}
-use Rattle.algebra.specs.Loops.{every}
+use Rattle.algebra.specs.Loops.{every, tally}
 use Rattle.algebra.specs.Sets.{isOn, bit}
 use Rattle.algebra.specs.Words.{member, sift, rowOf}
 use Rattle.triples.specs.Sizes.{wordCount}
@@ -30,6 +31,9 @@ fullOf n = sift wordCount (λ r. ltb r (tripleCount n))
 
 unfoldable pub holdersOf : ℕ → ℕ → List ℕ
 holdersOf n k = sift wordCount (λ r. isOn k (tripleAt n r))
+
+unfoldable pub sizeOf : ℕ → List ℕ → ℕ
+sizeOf n w = tally (tripleCount n) (λ r. cond (member w r) 1 0)
 
 unfoldable pub maskOn : ℕ → ℕ → List ℕ → Bool
 maskOn n x s = every n (λ i. not (bit x i) || isOn i s)

@@ -1,11 +1,11 @@
-// Sets of triples by the shots that they hold.
+// Sets of triples by the shots that they hold, and by their size.
 ghost use mathlib.Core.Path.{_≡_};
 ghost use Prim.Native.Nat.{_*_, _≤_, _<_};
 ghost use lib.ListN.{length};
 ghost use Rattle.algebra.specs.Sets.{bit};
 ghost use Rattle.shots.specs.Sizes.{shotsMost, maskBits};
 ghost use Rattle.triples.specs.Sizes.{wordCount};
-ghost use Rattle.triples.specs.Sets.{wordsOf, fullOf, holdersOf, aroundOf, Holding};
+ghost use Rattle.triples.specs.Sets.{wordsOf, fullOf, holdersOf, aroundOf, sizeOf, Holding};
 use super::Triples;
 use super::ranks;
 use super::rows;
@@ -78,4 +78,21 @@ pub fn around(held: &[u64], n: usize, x: u16, list: Triples) -> Triples
         k += 1;
     }
     t
+}
+
+// How many triples of n shots the list has.
+pub fn size(n: usize, list: Triples) -> usize
+    requires { ⌜ n ≤ shotsMost ⌝ }
+    ensures { λ r. ⌜ r ≡ sizeOf n (wordsOf list) ⌝ }
+{
+    let count = ranks::count(n);
+    let mut k = 0;
+    let mut r = 0;
+    while r < count {
+        if sets::has(list, r) {
+            k += 1;
+        }
+        r += 1;
+    }
+    k
 }

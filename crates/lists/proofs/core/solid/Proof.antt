@@ -1,5 +1,5 @@
 -- `lists::core::solid` meets its contract: the triples that are not flat among those gone through.
-use mathlib.Core.Path.{_≡_, sym, _∙_, ap, subst}
+use mathlib.Core.Path.{_≡_, sym, _∙_, ap}
 use mathlib.Core.Logic.{⊎-elim}
 use mathlib.Core.Bool.{Bool, not}
 use mathlib.Core.List.{List, [], _∷_}
@@ -11,7 +11,6 @@ use mir.Syntax.{w8}
 use mir.Val.{ofZ}
 use borrow.Author.Needs.{needs}
 use borrow.Author.Tests.{eq-eqb, ne-eqb}
-use Rattle.algebra.specs.Sets.{Within}
 use Rattle.algebra.specs.Sign.{value}
 use Rattle.algebra.specs.Words.{wordBits}
 use Rattle.algebra.proofs.SizeLaws.{sign-is-nought}
@@ -21,7 +20,7 @@ use Rattle.triples.specs.Ranks.{tripleCount, tripleAt}
 use Rattle.triples.specs.Sets.{wordsOf}
 use Rattle.lists.specs.Tests.{isFlat}
 use Rattle.lists.specs.Held.{solidOf}
-use Rattle.triples.proofs.RankLaws.{triple-at-within, rank-room}
+use Rattle.triples.proofs.RankLaws.{triple-shots, rank-room}
 use Rattle.triples.proofs.SiftLaws.{sifted, sifted-none, sifted-in, sifted-out, sifted-end}
 use Rattle.lists.proofs.ByWords.{flat-past}
 use Rattle.lists.proofs.core.solid.Statement.{statement}
@@ -35,12 +34,6 @@ bent l r = not (isFlat l (tripleAt (countOf l) r))
 bent-sign : (l : List ℤ) (r i j k : ℕ) (z : ℤ) {b : Bool} → i ∷ j ∷ k ∷ [] ≡ tripleAt (countOf l) r → z ≡ value (orientOf l i j k) → eqb (ofZ w8 z) (ofZ w8 (pos 0)) ≡ b → bent l r ≡ not b
 unfolding isFlat
 bent-sign l r i j k z e s h = ap (λ (t : List ℕ). not (isFlat l t)) (sym e) ∙ ap not (sym (sign-is-nought z (orientOf l i j k) s) ∙ h)
-
--- what has a rank is of shots of the patch
-shots-in : (n r i j k : ℕ) → r < tripleCount n → i ∷ j ∷ k ∷ [] ≡ tripleAt n r → (i < n) × (j < n) × (k < n)
-shots-in n r i j k h e =
-    let w : Within 0 (i ∷ j ∷ k ∷ []) n = subst (λ (s : List ℕ). Within 0 s n) (sym e) (triple-at-within n r h .0) in
-    (w .1, w .2 .1, w .2 .2 .1)
 
 abbrev Inv-loop : tie.InvT-loop
 Inv-loop shots n count t₀ r₀ t r = (r ≤ count) × (wordsOf t ≡ sifted wordCount (bent shots) r)
@@ -65,7 +58,7 @@ sign-requires : tie.Need-sign-requires Inv-loop μ-loop
 sign-requires c κs =
     let i = c .before in
     let s = i .before .before .before .before in
-    let h = shots-in (countOf (s .args .shots .now)) (i .before .loop .r) _ _ _ (low i) (c .triple-at .ensures) in
+    let h = triple-shots (countOf (s .args .shots .now)) (i .before .loop .r) (low i) (c .triple-at .ensures) in
     (h .0, h .1, h .2, s .pre .0)
 
 with-requires : tie.Need-with-requires Inv-loop μ-loop

@@ -1,0 +1,126 @@
+-- Records there and back: what is written is read as it was, and what is read is written as it was, byte for byte.
+--
+--   read-then-write-patch, write-then-read-patch
+--   read-then-write-surface, write-then-read-surface
+--   patch-bytes-differ, surface-bytes-differ     different patches, different lists of one patch have different records
+use mathlib.Core.Path.{_≡_, refl, sym, _∙_, ap, subst}
+use mathlib.Core.Bool.{Bool, true, false}
+use mathlib.Core.List.{List, [], _∷_, _++_}
+use Prim.Native.Nat.{ℕ, _≤_}
+use native.Mathlib.Omega.{arith}
+use lib.ListN.{length, getD, take, drop}
+use lib.IntN.{ℤ}
+use Rattle.algebra.specs.Answer.{gives}
+use Rattle.algebra.specs.Words.{Words, member}
+use Rattle.algebra.proofs.AnswerLaws.{Unbroken, unbroken-gives, gives-unbroken, unbroken-refusal, unbroken-append, append-unbroken}
+use Rattle.algebra.proofs.LoopLaws.{or-parts}
+use Rattle.shots.specs.Sizes.{shotsMost}
+use Rattle.shots.specs.Patch.{countOf}
+use Rattle.shots.specs.Tests.{shotRules, placeRules, refusalOf}
+use Rattle.shots.proofs.Patch.{patch-few}
+use Rattle.triples.specs.Sizes.{wordCount}
+use Rattle.triples.specs.Ranks.{tripleCount}
+use Rattle.lists.specs.Tests.{pastLast, someFlat, listRules}
+use Rattle.lists.specs.Calls.{testOf}
+use Rattle.lists.proofs.ByWords.{members-low}
+use Rattle.records.specs.Fields.{Bytes}
+use Rattle.records.specs.Formats.{patchBytes, surfaceBytes}
+use Rattle.records.specs.Reading.{coordinatesOf, patchFrame, patchRules, surfaceFrame, tripleRule, listedOf, surfaceRules}
+use Rattle.records.specs.Calls.{readPatchOf, readSurfaceOf, writeOf, writePatchOf, writeSurfaceOf}
+use Rattle.records.proofs.FormatLaws.{coordinates-kept}
+use Rattle.records.proofs.CallChains.{writes, written}
+use Rattle.records.proofs.PatchTrips.{patch-bytes-again, patch-head, patch-read-again, patch-unbroken}
+use Rattle.records.proofs.SurfaceTrips.{surface-bytes-again, surface-read-again, surface-unbroken}
+
+-- ---- patches
+
+pub read-then-write-patch : (b : List ℕ) → Bytes b → (n : ℕ) → readPatchOf b .answer ≡ gives n → (t : List ℕ) → length b ≤ length t
+    → writePatchOf (coordinatesOf b) t ≡ record { answer = gives (length b); buffer = b ++ drop (length b) t }
+unfolding readPatchOf writePatchOf
+read-then-write-patch b v n e t h =
+    let u = gives-unbroken (patchRules b) (getD b 3 0) n e .0 in
+    ap (λ (s : List ℕ). writeOf (shotRules (coordinatesOf b)) s t) (patch-bytes-again b v (append-unbroken (patchFrame b) (placeRules (coordinatesOf b)) u .0))
+    ∙ writes (shotRules (coordinatesOf b)) b t (coordinates-kept b u) h
+
+pub write-then-read-patch : (l : List ℤ) (t : List ℕ) (k : ℕ) → writePatchOf l t .answer ≡ gives k
+    → (readPatchOf (take k (writePatchOf l t .buffer)) .answer ≡ gives (countOf l)) × (coordinatesOf (take k (writePatchOf l t .buffer)) ≡ l)
+unfolding readPatchOf writePatchOf refusalOf
+write-then-read-patch l t k e =
+    let (u, _, s) = written (shotRules l) (patchBytes l) t k e in
+    subst (λ (b : List ℕ). (readPatchOf b .answer ≡ gives (countOf l)) × (coordinatesOf b ≡ l)) (sym s) (accepted (unbroken-refusal (shotRules l) u))
+  where
+    accepted : refusalOf l ≡ 0 → (readPatchOf (patchBytes l) .answer ≡ gives (countOf l)) × (coordinatesOf (patchBytes l) ≡ l)
+    accepted h = (unbroken-gives (patchRules (patchBytes l)) (getD (patchBytes l) 3 0) (patch-unbroken l h) ∙ ap gives (patch-head l h .shots), patch-read-again l h)
+
+pub patch-bytes-differ : (l m : List ℤ) → refusalOf l ≡ 0 → refusalOf m ≡ 0 → patchBytes l ≡ patchBytes m → l ≡ m
+patch-bytes-differ l m h k e = sym (patch-read-again l h) ∙ ap coordinatesOf e ∙ patch-read-again m k
+
+-- ---- surfaces
+
+few-shots : (l : List ℤ) → Unbroken (shotRules l) → countOf l ≤ shotsMost
+unfolding refusalOf
+few-shots l u = patch-few l (unbroken-refusal (shotRules l) u) .1
+
+pub read-then-write-surface : (l : List ℤ) (b : List ℕ) → Bytes b → (w : List ℕ) → readSurfaceOf l b ≡ gives w → (t : List ℕ) → length b ≤ length t
+    → writeSurfaceOf l w t ≡ record { answer = gives (length b); buffer = b ++ drop (length b) t }
+unfolding readSurfaceOf writeSurfaceOf
+read-then-write-surface l b v w e t h =
+    subst (λ (x : List ℕ). writeSurfaceOf l x t ≡ record { answer = gives (length b); buffer = b ++ drop (length b) t }) (r .1)
+    (ap (λ (s : List ℕ). writeOf (shotRules l ++ listRules l listed) s t) (surface-bytes-again (countOf l) b (few-shots l (shots .0)) v (frame .0) (frame .1 .0))
+    ∙ writes (shotRules l ++ listRules l listed) b t (unbroken-append (shotRules l) (listRules l listed) (shots .0) (frame .1 .1)) h)
+  where
+    listed : List ℕ
+    listed = listedOf (countOf l) b
+
+    r : Unbroken (surfaceRules l b) × (listed ≡ w)
+    r = gives-unbroken (surfaceRules l b) listed w e
+
+    shots : Unbroken (shotRules l) × Unbroken (surfaceFrame (countOf l) b ++ tripleRule (countOf l) b ∷ listRules l listed)
+    shots = append-unbroken (shotRules l) (surfaceFrame (countOf l) b ++ tripleRule (countOf l) b ∷ listRules l listed) (r .0)
+
+    frame : Unbroken (surfaceFrame (countOf l) b) × Unbroken (tripleRule (countOf l) b ∷ listRules l listed)
+    frame = append-unbroken (surfaceFrame (countOf l) b) (tripleRule (countOf l) b ∷ listRules l listed) (shots .1)
+
+-- a list that is accepted, with its patch
+module _ (l : List ℤ) (w : List ℕ) (v : Words wordCount w) (u : Unbroken (shotRules l ++ listRules l w)) where
+  parts : Unbroken (shotRules l) × Unbroken (listRules l w)
+  parts = append-unbroken (shotRules l) (listRules l w) u
+
+  few : countOf l ≤ shotsMost
+  few = few-shots l (parts .0)
+
+  past : (r : ℕ) → tripleCount (countOf l) ≤ r → member w r ≡ false
+  past r h = go (member w r) refl
+    where
+      go : (b : Bool) → member w r ≡ b → b ≡ false
+      go true e = absurd (omega (arith, members-low l w few v (or-parts (pastLast l w) (someFlat l w) (parts .1 .0) .0) r e))
+      go false e = refl
+
+  list-read-again : listedOf (countOf l) (surfaceBytes (countOf l) w) ≡ w
+  list-read-again = surface-read-again (countOf l) w few v past
+
+  read-again : readSurfaceOf l (surfaceBytes (countOf l) w) ≡ gives w
+  unfolding readSurfaceOf
+  read-again = unbroken-gives (surfaceRules l bytes) (listedOf (countOf l) bytes) unbroken ∙ ap gives list-read-again
+    where
+      bytes : List ℕ
+      bytes = surfaceBytes (countOf l) w
+
+      unbroken : Unbroken (surfaceRules l bytes)
+      unbroken =
+          unbroken-append (shotRules l) (surfaceFrame (countOf l) bytes ++ tripleRule (countOf l) bytes ∷ listRules l (listedOf (countOf l) bytes)) (parts .0)
+          (unbroken-append (surfaceFrame (countOf l) bytes ++ tripleRule (countOf l) bytes ∷ []) (listRules l (listedOf (countOf l) bytes)) (surface-unbroken (countOf l) w few)
+          (subst (λ (x : List ℕ). Unbroken (listRules l x)) (sym list-read-again) (parts .1)))
+
+pub write-then-read-surface : (l : List ℤ) (w t : List ℕ) (k : ℕ) → Words wordCount w → writeSurfaceOf l w t .answer ≡ gives k → readSurfaceOf l (take k (writeSurfaceOf l w t .buffer)) ≡ gives w
+unfolding writeSurfaceOf
+write-then-read-surface l w t k v e =
+    let (u, _, s) = written (shotRules l ++ listRules l w) (surfaceBytes (countOf l) w) t k e in
+    ap (readSurfaceOf l) s ∙ read-again l w v u
+
+pub surface-bytes-differ : (l : List ℤ) (w v : List ℕ) → Words wordCount w → Words wordCount v → testOf l w ≡ gives tt → testOf l v ≡ gives tt
+    → surfaceBytes (countOf l) w ≡ surfaceBytes (countOf l) v → w ≡ v
+unfolding testOf
+surface-bytes-differ l w v p q f g e =
+    sym (list-read-again l w p (gives-unbroken (shotRules l ++ listRules l w) tt tt f .0)) ∙ ap (listedOf (countOf l)) e
+    ∙ list-read-again l v q (gives-unbroken (shotRules l ++ listRules l v) tt tt g .0)

@@ -1,0 +1,3 @@
+pub mod WalkLaws
+pub mod Promises
+pub mod Square

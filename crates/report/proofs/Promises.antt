@@ -1,0 +1,77 @@
+-- What the report promises of a patch record, beyond its text (specs/Report).
+--
+--   report-refused      a refused record: its number, and nothing else
+--   report-read         an accepted one: what placing answers decides
+--   report-walk         where that is a surface w: the walk from w
+--   report-surfaces     the rows of that walk keep the promise of demand 3
+--   walk-ends-so        the walk ends done, or is refused
+--   report-done         where it is done, the rows are printed, and they are exactly the surfaces that flips reach from w, each once
+--   report-full         where the table is full, the rows are printed; each is a surface that flips reach from w
+use mathlib.Core.Path.{_≡_, refl, _∙_, ap}
+use mathlib.Core.Logic.{_⊎_, inl, inr, _↔_}
+use mathlib.Core.Bool.{true, false}
+use mathlib.Core.List.{List}
+use Prim.Native.Nat.{ℕ, _*_}
+use lib.ListN.{length}
+use lib.IntN.{ℤ}
+use Rattle.algebra.specs.Answer.{Answer, gives, refuses}
+use Rattle.algebra.specs.Words.{Words}
+use Rattle.reach.specs.Walks.{Reply, started, made, done}
+use Rattle.reach.specs.Reach.{Stands}
+use Rattle.reach.proofs.Theorem.{run-done}
+use Rattle.circuits.specs.Numbered.{circuitsOf}
+use Rattle.triples.specs.Sizes.{wordCount}
+use Rattle.lists.specs.Calls.{testOf}
+use Rattle.surfaces.specs.Calls.{placingOf}
+use Rattle.surfaces.proofs.Promises.{placing-words}
+use Rattle.walks.specs.Surfaces.{Surfaces, Reachable}
+use Rattle.walks.proofs.Theorem.{plane-sound, walk-surfaces}
+use Rattle.records.specs.Reading.{coordinatesOf}
+use Rattle.records.specs.Calls.{readPatchOf}
+use Rattle.text.specs.Lines.{refusedLine}
+use Rattle.report.specs.Sizes.{stepsMost}
+use Rattle.report.specs.Report.{walkOf, surfacesText, endText, endOf, walkText, placedText, patchText, reportOf}
+use Rattle.report.proofs.WalkLaws.{placing-tested, begun-walked, walk-walked, walk-not-made, walk-not-started}
+
+pub report-refused : (b : List ℕ) (n : ℕ) → readPatchOf b .answer ≡ refuses n → reportOf b ≡ refusedLine n
+unfolding reportOf
+report-refused b n e = ap (λ (a : Answer ℕ). patchText (coordinatesOf b) a) e
+
+pub report-read : (b : List ℕ) (n : ℕ) → readPatchOf b .answer ≡ gives n → reportOf b ≡ placedText (coordinatesOf b) (placingOf (coordinatesOf b))
+unfolding reportOf
+report-read b n e = ap (λ (a : Answer ℕ). patchText (coordinatesOf b) a) e
+
+pub report-walk : (b : List ℕ) (n : ℕ) (w : List ℕ) → readPatchOf b .answer ≡ gives n → placingOf (coordinatesOf b) ≡ gives w → reportOf b ≡ walkText (coordinatesOf b) w
+report-walk b n w e p = report-read b n e ∙ ap (λ (a : Answer (List ℕ)). placedText (coordinatesOf b) a) p
+
+module _ (l : List ℤ) (w : List ℕ) (placed : placingOf l ≡ gives w) where
+  accepted : testOf l w ≡ gives tt
+  accepted = placing-tested l w placed
+
+  words : Words wordCount w
+  words = placing-words l w placed
+
+  pub report-surfaces : Surfaces l w (walkOf l w .table) (walkOf l w .walk)
+  report-surfaces = walk-surfaces l w words (walkOf l w .table) (walkOf l w .walk) (walk-walked l w accepted)
+
+  -- it is never only made, nor started anew
+  pub walk-ends-so : (walkOf l w .answer ≡ gives done) ⊎ ((n : ℕ) × (walkOf l w .answer ≡ refuses n))
+  walk-ends-so = go (walkOf l w .answer) refl
+    where
+      go : (a : Answer Reply) → walkOf l w .answer ≡ a → (walkOf l w .answer ≡ gives done) ⊎ ((n : ℕ) × (walkOf l w .answer ≡ refuses n))
+      go (gives started) e = absurd (walk-not-started l w accepted (words .0) e)
+      go (gives made) e = absurd (walk-not-made l w accepted (words .0) e)
+      go (gives done) e = inl e
+      go (refuses n) e = inr (n, e)
+
+  pub report-done : walkOf l w .answer ≡ gives done
+      → (walkText l w ≡ surfacesText l (endOf l w) true) × (walkOf l w .walk .step ≡ walkOf l w .walk .rows * length (circuitsOf l))
+      × ((v : List ℕ) → Stands wordCount (walkOf l w .table) (walkOf l w .walk .rows) v ↔ Reachable l w v)
+  unfolding walkText walkOf
+  report-done e =
+      let s = run-done (plane-sound l) w (words .0) (begun-walked l w accepted) stepsMost e in
+      (ap (λ (a : Answer Reply). endText l (endOf l w) a) e, s, report-surfaces .whole s)
+
+  pub report-full : walkOf l w .answer ≡ refuses 11 → walkText l w ≡ surfacesText l (endOf l w) false
+  unfolding walkText
+  report-full e = ap (λ (a : Answer Reply). endText l (endOf l w) a) e

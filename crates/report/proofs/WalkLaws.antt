@@ -1,0 +1,77 @@
+-- The walk that the report tells of: from an accepted list, in a table of zeros.
+--
+--   placing-tested               a placing surface passes the test
+--   begun-walked, walk-walked    start and run make a walk, in the sense of demand 3
+--   rows-fit                     its rows fit into the table
+--   walk-not-made, walk-not-started    it is never only made, nor started anew: it ends done, or is refused
+use mathlib.Core.Path.{_≡_, sym, _∙_, ap}
+use mathlib.Core.List.{List, [], _∷_}
+use Prim.Native.Nat.{ℕ, _<_, _≤_}
+use native.Mathlib.Omega.{arith}
+use native.Mathlib.Nat.{mul-le-mul-left}
+use lib.ListN.{length, replicate, length-replicate}
+use lib.IntN.{ℤ}
+use Rattle.algebra.specs.Answer.{gives}
+use Rattle.algebra.proofs.AnswerLaws.{clear-append}
+use Rattle.reach.specs.Walks.{started, made, Landing, rowsMost, capacityOf}
+use Rattle.reach.specs.Walked.{Walked, starts, runs}
+use Rattle.reach.proofs.StepLaws.{start-writes}
+use Rattle.reach.proofs.Theorem.{walk-listing, run-ends, run-never-started}
+use Rattle.shots.specs.Lines.{shotLines}
+use Rattle.shots.proofs.Patch.{patch-few}
+use Rattle.circuits.proofs.Bounds.{circuits-most}
+use Rattle.triples.specs.Sizes.{wordCount}
+use Rattle.lists.specs.Calls.{testOf}
+use Rattle.lists.proofs.Promises.{shots-kept, test-accepts}
+use Rattle.surfaces.specs.Placing.{placedOf}
+use Rattle.surfaces.specs.Lines.{Accepted}
+use Rattle.surfaces.specs.Calls.{placingOf}
+use Rattle.surfaces.proofs.Promises.{placing-gives, placing-accepted}
+use Rattle.walks.specs.Calls.{plane}
+use Rattle.walks.proofs.Theorem.{plane-sound}
+use Rattle.report.specs.Sizes.{tableRows, tableWords, stepsMost}
+use Rattle.report.specs.Report.{noWalk, begunOf, walkOf}
+
+pub placing-tested : (l : List ℤ) (w : List ℕ) → placingOf l ≡ gives w → testOf l w ≡ gives tt
+placing-tested l w e =
+    let c = clear-append (shotLines l) (record { number = 14; when = Accepted l (placedOf l) → ⊥ } ∷ []) .0 (placing-gives l w .0 e .0) in
+    let a = placing-accepted l w e in
+    test-accepts l w .1 (c .0, a .0, a .1)
+
+abbrev zeros : List ℕ
+zeros = replicate tableWords 0
+
+-- so many rows are in the table
+capacity : (t : List ℕ) → length t ≡ tableWords → capacityOf wordCount (length t) ≡ tableRows
+capacity t e = ap (capacityOf wordCount) e
+
+module _ (l : List ℤ) (w : List ℕ) (accepted : testOf l w ≡ gives tt) where
+  begun-started : begunOf l w .answer ≡ gives started
+  unfolding begunOf
+  begun-started = ap (λ (x : Landing). x .answer) (start-writes (plane l) zeros noWalk w accepted (λ e. some (sym (capacity zeros (length-replicate {A = ℕ} tableWords 0)) ∙ e)))
+    where
+      some : tableRows ≡ 0 → ⊥
+      some e = omega arith
+
+  pub begun-walked : Walked (plane l) w (begunOf l w .table) (begunOf l w .walk)
+  unfolding begunOf
+  begun-walked = starts zeros noWalk begun-started
+
+  pub walk-walked : Walked (plane l) w (walkOf l w .table) (walkOf l w .walk)
+  unfolding walkOf
+  walk-walked = runs (begunOf l w .table) (begunOf l w .walk) stepsMost begun-walked
+
+  module _ (size : length w ≡ wordCount) where
+    pub rows-fit : (0 < walkOf l w .walk .rows) × (walkOf l w .walk .rows ≤ capacityOf wordCount (length (walkOf l w .table)))
+    rows-fit = let p = walk-listing (plane-sound l) w size walk-walked .possible in (p .0, p .1)
+
+    pub walk-not-made : walkOf l w .answer ≡ gives made → ⊥
+    unfolding walkOf
+    walk-not-made e =
+        let few = circuits-most l (patch-few l (shots-kept l (test-accepts l w .0 accepted .0)) .1) in
+        let most = mul-le-mul-left rowsMost few in
+        run-ends (plane-sound l) w size begun-walked stepsMost (omega arith) e
+
+    pub walk-not-started : walkOf l w .answer ≡ gives started → ⊥
+    unfolding walkOf
+    walk-not-started e = run-never-started (plane-sound l) w size begun-walked stepsMost e

@@ -1,0 +1,46 @@
+// runcases: reads a stream of cases on standard input and prints for each what the call answered and what it left in all that it was lent. docs/CASES.md has the form of both.
+ghost use Rattle.io.specs.Counts.{Counts};
+use libc::STDIN_FILENO;
+
+mod calls;
+mod parse;
+mod show;
+
+// The longest stream, run of coordinates, run of bytes, and table.
+const STREAM_MOST: usize = 524288;
+
+const SHOTS_ROOM: usize = 64;
+
+const BYTES_ROOM: usize = 65600;
+
+const TABLE_ROOM: usize = 131080;
+
+fn load(stream: &mut [u8; STREAM_MOST]) -> usize
+    ensures { λ r. ⌜ Counts r (now (stream .exit)) ⌝ }
+{
+    io::read_full(STDIN_FILENO, stream)
+}
+
+// The cases, line by line.
+fn all(
+    stream: &[u8],
+    first: &mut [u64; BYTES_ROOM],
+    second: &mut [u64; TABLE_ROOM],
+    bytes: &mut [u8; BYTES_ROOM],
+) {
+    let mut at = 0;
+    while at < stream.len() {
+        let end = parse::line_end(stream, at);
+        calls::case(&stream[at..end], first, second, bytes);
+        at = end + 1;
+    }
+}
+
+fn main() {
+    let mut stream = [0u8; STREAM_MOST];
+    let n = load(&mut stream);
+    let mut first = [0u64; BYTES_ROOM];
+    let mut second = [0u64; TABLE_ROOM];
+    let mut bytes = [0u8; BYTES_ROOM];
+    all(&stream[..n], &mut first, &mut second, &mut bytes);
+}

@@ -1,0 +1,559 @@
+#!/usr/bin/env python3
+"""Writes the stream of run cases that docs/CASES.md describes to standard output, always the same.
+
+usage: python3 second/cases.py SECOND > stream
+
+SECOND is the built second program. It is asked for the surfaces of a patch; no answer to a case stands here.
+"""
+
+import itertools
+import random
+import struct
+import subprocess
+import sys
+
+U64 = 2**64 - 1
+LOWEST, HIGHEST = -(2**31), 2**31 - 1
+LIMIT = 1_000_000
+
+TRIANGLE = [(0, 0), (1, 0), (0, 1)]
+SQUARE = [(0, 0), (2, 0), (2, 2), (0, 2), (1, 1)]
+PENTAGON = [(0, 0), (4, 0), (5, 4), (2, 6), (-1, 4)]
+GRID23 = [(x, y) for y in range(2) for x in range(3)]
+GRID33 = [(x, y) for y in range(3) for x in range(3)]
+GRID25 = [(x, y) for y in range(2) for x in range(5)]
+MIDDLE_FIRST = [(1, 0), (0, 0), (2, 0), (0, 1), (2, 3)]
+LATE_START = [(0, 0), (4, 0), (2, 0), (6, 0), (1, 3), (-2, 0)]
+EXTREMES = [(-LIMIT, -LIMIT), (LIMIT, -LIMIT), (LIMIT, LIMIT), (-LIMIT, LIMIT), (0, 0), (1, 0), (LIMIT - 1, LIMIT)]
+
+# A run of coordinates for each way in which shots are refused, and for several ways at once.
+BAD_SHOTS = [
+    [0, 0, 1, 0, 0, 1, 5],
+    [0, 0, 1, 0],
+    [0, 0, 1, 0, 0, LIMIT + 1],
+    [0, 0, 3, 1, 0, 1, 3, 1],
+    [0, 0, 1, 1, 2, 2, 3, 3],
+    [0, 0, 0, 0, 5, 5, -LIMIT - 1, 0],
+]
+
+rng = random.Random(20240101)
+
+
+# The form of the stream
+
+
+def written(argument):
+    """A number, or a run of numbers or shots in brackets."""
+    if isinstance(argument, int):
+        return str(argument)
+    flat = [v for item in argument for v in (item if isinstance(item, tuple) else [item])]
+    items = []
+    for value, run in itertools.groupby(flat):
+        count = len(list(run))
+        items += [f"{value}*{count}"] if count > 3 else [str(value)] * count
+    return "[" + " ".join(items) + "]"
+
+
+def case(call, *arguments):
+    print(call, *map(written, arguments))
+
+
+def remark(text):
+    print("#", text)
+
+
+# Patches, lists and records
+
+
+def triples(n):
+    return list(itertools.combinations(range(n), 3))
+
+
+def words(n, names):
+    """The two words of a list of triples, given as (i, j, k) or as text like "012 023"."""
+    if isinstance(names, str):
+        names = [tuple(map(int, name)) for name in names.split()]
+    bits = sum(1 << triples(n).index(t) for t in names)
+    return [bits & U64, bits >> 64]
+
+
+def turn(patch, i, j, k):
+    (ax, ay), (bx, by), (cx, cy) = patch[i], patch[j], patch[k]
+    return (bx - ax) * (cy - ay) - (by - ay) * (cx - ax)
+
+
+def solid(patch):
+    """The triples that are not flat."""
+    return [t for t in triples(len(patch)) if turn(patch, *t)]
+
+
+def accepted(patch):
+    return len(set(patch)) == len(patch) and bool(solid(patch))
+
+
+def patch_record(patch):
+    body = bytes([1, len(patch)]) + b"".join(struct.pack(">ii", *shot) for shot in patch)
+    return list(struct.pack(">H", len(body)) + body)
+
+
+def surface_record(n, surface):
+    body = [1, n, len(surface)] + [shot for triple in surface for shot in triple]
+    return list(struct.pack(">H", len(body))) + body
+
+
+def walk(patch):
+    """The number of circuits and the surfaces of a patch, in the order of the walk from its placing surface."""
+    record = bytes(patch_record(patch))
+    lines = subprocess.run([sys.argv[1], "patchwalk"], input=record, capture_output=True, check=True).stdout
+    first, *rows, _ = lines.decode().splitlines()
+    surfaces = [[tuple(map(int, name)) for name in row.split()[3:]] for row in rows]
+    return int(first.split()[3]), surfaces
+
+
+def table(n, surfaces):
+    return [word for surface in surfaces for word in words(n, surface)]
+
+
+def random_patch(n, kind):
+    """An accepted patch: "small" and "grid" have many shots on lines, "wide" hardly any."""
+    size = {"grid": 1 if n < 5 else 2 if n < 9 else 3, "small": 6, "wide": LIMIT}[kind]
+    low = -size if kind == "wide" else 0
+    while True:
+        patch = [(rng.randint(low, size), rng.randint(low, size)) for _ in range(n)]
+        if accepted(patch):
+            return patch
+
+
+# Groups of cases
+
+
+def document_cases():
+    remark("document 01: the square with its centre")
+    for t in [(0, 1, 2), (0, 2, 1), (0, 2, 4), (4, 1, 0), (3, 3, 1)]:
+        case("orientation", SQUARE, *t)
+        case("double_area", SQUARE, *t)
+    case("cocircuit", SQUARE, 0, 2)
+    case("accept", SQUARE)
+    case("border", SQUARE)
+    case("circuits", SQUARE)
+    for z in range(4):
+        case("circuit", SQUARE, z)
+    for names in ["012 023", "012", "012 023 013", "012 034 234", "", "024", "014 034 124 234", "013 123"]:
+        case("test", SQUARE, *words(5, names))
+    for names, z in itertools.product(["012 023", "014 034 124 234", "013 123"], range(4)):
+        case("flip", SQUARE, *words(5, names), z)
+    case("placing", SQUARE)
+    remark("document 01: three shots are done at 0 steps with one row")
+    case("circuits", TRIANGLE)
+    case("placing", TRIANGLE)
+    case("start", TRIANGLE, 1, 0, [7, 8], 5, 6)
+    case("step", TRIANGLE, [1, 0], 1, 0)
+    case("run", TRIANGLE, [1, 0], 1, 0, 0)
+    case("run", TRIANGLE, [1, 0], 1, 0, 10)
+
+
+def run_cases():
+    remark("document 01: run cases")
+    many = [(x, x * x) for x in range(11)]
+    for n in [0, 1, 2, 3, 10, 11]:
+        case("accept", many[:n])
+    for far in [LIMIT, LIMIT + 1, -LIMIT, -LIMIT - 1]:
+        case("accept", [(0, 0), (far, 0), (0, 1)])
+        case("accept", [(0, 0), (0, 1), (1, far)])
+    first = words(5, "012 023")
+    for length in [2, 3, 4, 5, 6, 7]:
+        case("run", SQUARE, (first + [99] * 5)[:length], 1, 0, 100)
+    full = first + words(5, "014 034 124 234")
+    case("step", SQUARE, full, 2, 2)
+    case("step", SQUARE, full + [9], 2, 2)
+    case("step", SQUARE, full + [9, 9], 2, 2)
+
+
+def shot_cases():
+    remark("shots: number by number over the whole run")
+    case("accept", [(1, 1), (1, 1), (3, 0), (LIMIT + 1, 0)])
+    case("accept", [(1, 1)] * 4)
+    case("accept", [(0, 0), (1, 1), (2, 2), (1, 1)])
+    case("accept", [(0, 0), (1, 1), (2, 2)])
+    case("accept", [0, 0, 1, 1, 2])
+    case("accept", [LIMIT + 1] * 5)
+    case("accept", [LIMIT + 1] * 4)
+    case("accept", [LIMIT + 1] * 22)
+    case("accept", [0] * 64)
+    case("accept", [])
+    case("accept", [7])
+    case("accept", [0] * 21)
+    for numbers in [(0, 0, 99), (0, 0, 1), (5, 0, 1), (0, 5, 1), (U64, 0, 1), (0, 2**32, 1), (0, 1, 2**64 - 256)]:
+        case("orientation", SQUARE, *numbers)
+        case("double_area", SQUARE, *numbers)
+    for pair in [(0, 1), (1, 0), (2, 2), (4, 5), (3, 4), (5, 4), (0, U64), (U64, 0), (U64, U64), (0, 256), (2**32, 1)]:
+        case("cocircuit", SQUARE, *pair)
+    case("cocircuit", [(0, 0)] * 3, 9, 9)
+    case("border", GRID33)
+    case("border", LATE_START)
+
+
+def extreme_cases():
+    remark("coordinates at the ends of their range and of their type")
+    for far in [LOWEST, HIGHEST, LIMIT + 1]:
+        case("accept", [(far, far), (far, 0), (0, far)])
+        case("orientation", [(far, far), (far, 0), (0, far)], 0, 1, 2)
+        case("write_patch", [(0, 0), (0, 1), (far, 1)], [0] * 28)
+        case("read_patch", patch_record([(0, 0), (0, 1), (far, 1)]))
+    case("accept", [(LOWEST, LOWEST), (HIGHEST, HIGHEST), (LOWEST, HIGHEST), (HIGHEST, LOWEST)])
+    case("accept", [(LIMIT, LIMIT), (-LIMIT, -LIMIT), (0, 0)])
+    case("accept", [(LIMIT, LIMIT), (-LIMIT, -LIMIT), (0, 1)])
+    for t in [(0, 1, 2), (3, 1, 0), (1, 3, 6), (0, 2, 4), (0, 4, 6), (2, 3, 6), (4, 5, 6)]:
+        case("double_area", EXTREMES, *t)
+        case("orientation", EXTREMES, *t)
+    for pair in [(0, 1), (0, 2), (2, 6), (3, 6)]:
+        case("cocircuit", EXTREMES, *pair)
+    case("border", EXTREMES)
+    case("circuits", EXTREMES)
+    case("placing", EXTREMES)
+    case("write_patch", EXTREMES, [0] * 60)
+    case("read_patch", patch_record(EXTREMES))
+
+
+def circuit_cases():
+    remark("circuits: the smallest number is on the plus side, also where it is the middle one")
+    for patch in [MIDDLE_FIRST, LATE_START, GRID23, TRIANGLE]:
+        count, _ = walk(patch)
+        case("circuits", patch)
+        for z in [*range(count), count, U64]:
+            case("circuit", patch, z)
+    for patch in [GRID33, GRID25, EXTREMES]:
+        count, _ = walk(patch)
+        for z in [0, *rng.sample(range(1, count), 3), count - 1, count]:
+            case("circuit", patch, z)
+
+
+def list_cases():
+    remark("lists: each two triples of the square with its centre")
+    for chosen in itertools.combinations(triples(5), 2):
+        case("test", SQUARE, *words(5, chosen))
+    remark("lists: bits past the last rank")
+    low, high = words(5, "012 023")
+    for bit in [10, 11, 63]:
+        case("test", SQUARE, low | 1 << bit, high)
+        case("test", SQUARE, 1 << bit, 0)
+    for bit in [0, 63]:
+        case("test", SQUARE, low, 1 << bit)
+        case("test", SQUARE, 0, 1 << bit)
+    case("test", SQUARE, U64, U64)
+    case("test", TRIANGLE, 1, 0)
+    case("test", TRIANGLE, 2, 0)
+    case("test", TRIANGLE, 3, 0)
+    for patch in [GRID33, GRID25]:
+        count = len(triples(len(patch)))
+        surface = table(len(patch), [walk(patch)[1][0]])
+        for bit in [count - 65, count - 64, 63]:
+            case("test", patch, surface[0], surface[1] | 1 << bit)
+    case("test", [(x, x * x) for x in range(8)], 1 << 55, 0)
+    case("test", [(x, x * x) for x in range(8)], 1 << 56, 0)
+
+
+def changed_surface_cases():
+    remark("lists: surfaces, and the same with one triple more, fewer or exchanged")
+    patches = [GRID23, GRID33, GRID25, LATE_START, EXTREMES]
+    patches += [random_patch(n, kind) for n, kind in zip(range(4, 11), itertools.cycle(["wide", "small"]))]
+    for patch in patches:
+        n, surface = len(patch), rng.choice(walk(patch)[1])
+        others = [t for t in solid(patch) if t not in surface]
+        fewer = rng.sample(surface, len(surface) - 1)
+        case("test", patch, *words(n, surface))
+        case("test", patch, *words(n, surface + [rng.choice(others)]))
+        case("test", patch, *words(n, fewer))
+        case("test", patch, *words(n, fewer + [rng.choice(others)]))
+
+
+def folded_cases():
+    remark("lists: areas that add up to the outline's")
+    for patch in [SQUARE, GRID23, LATE_START, MIDDLE_FIRST, random_patch(6, "small"), GRID33]:
+        area = lambda surface: sum(abs(turn(patch, *t)) for t in surface)
+        _, surfaces = walk(patch)
+        outline, found = area(surfaces[0]), 0
+        while found < 4:
+            chosen = rng.sample(solid(patch), rng.randint(2, min(6, len(solid(patch)))))
+            if area(chosen) == outline:
+                found += 1
+                case("test", patch, *words(len(patch), chosen))
+
+
+def placing_cases():
+    remark("placing: shots on the line of 0 and 1 come after the first triple; a shot that sees no edge is unused")
+    for patch in [LATE_START, MIDDLE_FIRST, GRID23, GRID33, GRID25]:
+        case("placing", patch)
+        case("placing", rng.sample(patch, len(patch)))
+    for n, kind in itertools.product(range(5, 11), ["grid", "small"]):
+        case("placing", random_patch(n, kind))
+
+
+def flip_cases():
+    remark("flips: each circuit of a surface")
+    for patch in [MIDDLE_FIRST, LATE_START, GRID23, PENTAGON]:
+        count, surfaces = walk(patch)
+        for surface in rng.sample(surfaces, 2):
+            for z in range(count):
+                case("flip", patch, *words(len(patch), surface), z)
+    remark("flips: some circuits of larger patches, and numbers that are no circuit")
+    for patch in [GRID33, GRID25, random_patch(10, "small"), random_patch(9, "wide")]:
+        count, surfaces = walk(patch)
+        surface = rng.choice(surfaces)
+        for z in [*rng.sample(range(count), 6), count]:
+            case("flip", patch, *words(len(patch), surface), z)
+    for z in [0, 1, U64]:
+        case("flip", TRIANGLE, 1, 0, z)
+    for z in [2**32, 2**63, U64]:
+        case("flip", SQUARE, *words(5, "012 023"), z)
+
+
+def random_patch_cases():
+    remark("random patches of 3 to 10 shots")
+    for n, kind in zip(range(3, 11), itertools.cycle(["grid", "wide", "small"])):
+        patch = random_patch(n, kind)
+        case("border", patch)
+        case("circuits", patch)
+        case("cocircuit", patch, *sorted(rng.sample(range(n), 2)))
+        case("orientation", patch, *rng.sample(range(n), 3))
+        case("double_area", patch, *rng.sample(range(n), 3))
+        case("circuit", patch, rng.randrange(2 * n))
+        case("write_patch", patch, [rng.randrange(256) for _ in range(4 + 8 * n)])
+        case("read_patch", patch_record(patch))
+
+
+def refused_shot_cases():
+    remark("each call over refused shots, with nothing else wrong and then with as much else wrong as there can be")
+    good, bad = words(5, "012 023"), [U64, U64]
+    for shots in BAD_SHOTS:
+        case("border", shots)
+        case("circuits", shots)
+        case("placing", shots)
+        case("orientation", shots, 0, 1, 2)
+        case("double_area", shots, 0, 1, 99)
+        case("cocircuit", shots, 9, 9)
+        case("circuit", shots, U64)
+        case("test", shots, *bad)
+        case("flip", shots, *bad, U64)
+        case("start", shots, *good, [5, 6, 7], 8, 9)
+        case("start", shots, *bad, [], 0, 9)
+        case("step", shots, [1], 0, U64)
+        case("run", shots, [*good, 0, 0], 1, 0, 5)
+        case("run", shots, [1], 0, U64, 0)
+        case("write_patch", shots, [9] * 60)
+        case("write_patch", shots, [])
+        case("write_surface", shots, *bad, [3] * 3)
+        case("read_surface", shots, [0, 0])
+
+
+def refused_list_cases():
+    remark("each call over a refused list, also with a circuit number too high and with no room")
+    lists = [words(5, names) for names in ["024", "", "012 023 013", "012"]]
+    lists += [[1 << 10, 0], [words(5, "012 013")[0], 1], words(5, "024 012 013 023")]
+    for low, high in lists:
+        case("test", SQUARE, low, high)
+        case("flip", SQUARE, low, high, 3)
+        case("start", SQUARE, low, high, [5, 6, 7, 8], 9, 10)
+        case("start", SQUARE, low, high, [5], 9, 10)
+        case("write_surface", SQUARE, low, high, [7] * 3)
+        case("step", SQUARE, [low, high, 5, 6], 1, 1)
+        case("step", SQUARE, [low, high], 1, 3)
+        case("run", SQUARE, [low, high, 5, 6], 1, 0, U64)
+
+
+def start_cases():
+    remark("start: what the record held does not matter; room for one row is enough")
+    first = words(5, "012 023")
+    for length in range(5):
+        case("start", SQUARE, *first, [11, 12, 13, 14][:length], 0, 0)
+        case("start", SQUARE, *first, [U64] * length, U64, U64)
+    for patch in [TRIANGLE, GRID33, GRID25, random_patch(10, "wide")]:
+        surface = rng.choice(walk(patch)[1])
+        case("start", patch, *words(len(patch), surface), [4, 5, 6], 70_000, 3)
+
+
+def walk_record_cases():
+    remark("walk records: rows and step number are anything; 15 comes before done")
+    rows = table(5, walk(SQUARE)[1])
+    numbers = [(0, 0), (0, 1), (1, 3), (1, 4), (2, 6), (2, 7), (3, 8), (3, 9), (3, 10), (4, 12), (1, U64)]
+    numbers += [(U64, 0), (U64, U64), (0, U64), (2**63, 2**63), (2**32 + 1, 0), (65_536, 0)]
+    numbers += [(6148914691236517206, 2), (12297829382473034411, 1), (2**64 - 65_535, 3), (3, 2**32)]
+    for in_use, s in numbers:
+        case("step", SQUARE, rows, in_use, s)
+        case("run", SQUARE, rows, in_use, s, s % 3)
+    for length, in_use in [(0, 1), (1, 1), (2, 1), (2, 2), (3, 2), (4, 2), (5, 2), (5, 3)]:
+        case("step", SQUARE, rows[:length], in_use, 0)
+    remark("walk records: with no circuits only step 0 is possible, and the rows may hold anything")
+    lent = [3, 4, U64, U64, U64]
+    for length, in_use, s in [(0, 0, 0), (2, 1, 0), (2, 1, 1), (2, 1, U64), (2, 0, 0), (5, 2, 0)]:
+        case("step", TRIANGLE, lent[:length], in_use, s)
+        case("run", TRIANGLE, lent[:length], in_use, s, 0)
+        case("run", TRIANGLE, lent[:length], in_use, s, U64)
+
+
+def table_cases():
+    remark("tables: only row s div C is tested, the others are compared as words")
+    rows = table(5, walk(SQUARE)[1])
+    for bad in [[0, 0], words(5, "012"), words(5, "012 013"), [rows[0], 1]]:
+        for at in range(3):
+            lent = rows[: 2 * at] + bad + rows[2 * at + 2 :] + [5, 5]
+            for s in [2, 5]:
+                case("step", SQUARE, lent, 3, s)
+            case("run", SQUARE, lent, 3, 0, U64)
+    remark("tables: a row twice, rows beyond those in use, a full table over known results")
+    case("run", SQUARE, rows[:2] * 4, 3, 0, U64)
+    case("run", SQUARE, rows[:2] * 4, 4, 0, U64)
+    case("run", SQUARE, rows, 1, 0, U64)
+    case("run", SQUARE, rows[:2] + rows[4:] + rows[2:4], 1, 0, U64)
+    case("run", SQUARE, rows[:2] + rows[4:] + rows[2:4], 2, 0, U64)
+    case("run", SQUARE, rows[:2] + [rows[3], rows[2]] + [0, 0], 2, 0, U64)
+    case("run", SQUARE, rows, 3, 0, U64)
+    case("run", SQUARE, rows[:2] + [rows[2], 1] + rows[4:], 3, 0, 3)
+
+
+def random_table_cases():
+    remark("tables: some surfaces of a patch in any order, any step number")
+    patches = [PENTAGON, GRID23, LATE_START, GRID33, GRID25]
+    patches += [random_patch(n, kind) for n in [6, 8, 9, 10] for kind in ["small", "wide"]]
+    for patch in patches:
+        count, surfaces = walk(patch)
+        for room in [0, 3]:
+            rows = rng.choices(surfaces, k=rng.randint(1, 8))
+            lent = table(len(patch), rows) + [rng.getrandbits(64) for _ in range(room)]
+            s = rng.randint(0, len(rows) * count)
+            case("run", patch, lent, len(rows), s, rng.randint(1, 2 * count))
+        case("step", patch, lent, len(rows), s)
+
+
+def run_length_cases():
+    remark("runs: no step, one, exactly enough, one more, and as many as there are numbers")
+    for patch in [SQUARE, MIDDLE_FIRST, PENTAGON, LATE_START, GRID23]:
+        count, surfaces = walk(patch)
+        steps, first = len(surfaces) * count, words(len(patch), surfaces[0])
+        lent = first + [rng.getrandbits(64) for _ in range(2 * len(surfaces) - 1)]
+        for b in [0, 1, steps - 1, steps, steps + 1, U64]:
+            case("run", patch, lent, 1, 0, b)
+        case("run", patch, lent[:-1], 1, 0, U64)
+        case("run", patch, lent[:-2], 1, 0, U64)
+        case("run", patch, table(len(patch), surfaces), len(surfaces), steps, 0)
+        case("run", patch, table(len(patch), surfaces), len(surfaces), steps, 1)
+    bad = words(5, "012")
+    case("run", SQUARE, bad, 1, 0, 0)
+    case("run", SQUARE, words(5, "012 023") + bad, 2, 0, U64)
+    remark("runs: nine and ten shots, until the table is full")
+    for patch in [GRID33, GRID25, random_patch(10, "wide"), random_patch(10, "small"), random_patch(9, "grid")]:
+        first = words(len(patch), walk(patch)[1][0])
+        case("run", patch, first + [7] * 21, 1, 0, 3000)
+        case("run", patch, first + [7] * 21, 1, 0, 40)
+
+
+def capacity_cases():
+    remark("tables at the bound of 65,535 rows")
+    placing, star, other = (words(5, names) for names in ["012 023", "014 034 124 234", "013 123"])
+    for length in [131_069, 131_070, 131_071, 131_072]:
+        lent = ([0] * 131_066 + placing + placing + [6] * 2)[:length]
+        for in_use in [65_534, 65_535, 65_536]:
+            case("step", SQUARE, lent, in_use, 3 * 65_533 + 2)
+        case("run", SQUARE, lent, 65_534, 3 * 65_533 + 1, 3)
+        case("step", SQUARE, lent, 65_535, 3 * 65_535)
+        case("start", SQUARE, *star, lent, 1, 1)
+    known = placing + star + other + [0] * 131_066
+    for length in [131_070, 131_072]:
+        case("run", SQUARE, known[:length], 65_535, 0, 9)
+        case("run", SQUARE, known[:length], 65_535, 0, 10)
+    for in_use in [65_535, 65_536, 65_537]:
+        case("step", TRIANGLE, [3] * 131_074, in_use, 0)
+
+
+def patch_record_cases():
+    remark("patch records: each byte changed, each truncation, bytes after the end")
+    record = patch_record([(0, 0), (3, -1), (1, 2)])
+    for i, byte in enumerate(record):
+        case("read_patch", record[:i] + [(byte + rng.randint(1, 255)) % 256] + record[i + 1 :])
+        case("read_patch", record[:i])
+    for extra in [[0], [1], [0] * 8, [255] * 65]:
+        case("read_patch", record + extra)
+    remark("patch records: fine points of the order")
+    square = patch_record(SQUARE)
+    for n in [0, 2, 3, 4, 6, 10, 11, 50, 255]:
+        case("read_patch", square[:3] + [n] + square[4:])
+        case("read_patch", square[:2] + [rng.choice([1, 2]), n] + [127] * 40)
+    case("read_patch", [255] + square[1:2] + [2, 50] + square[4:])
+    for short in [[], [0], [0, 0], [0, 1], [0, 1, 9], [0, 1, 1]]:
+        case("read_patch", short)
+    for short in [[0, 2, 1, 3], [0, 2, 9, 3], [0, 2, 1, 0], [0, 2, 1, 11], [1, 2, 1, 3]]:
+        case("read_patch", short)
+    for shots in BAD_SHOTS[2:]:
+        case("read_patch", patch_record(list(zip(shots[::2], shots[1::2]))))
+    case("read_patch", patch_record([(x, x * x) for x in range(11)]))
+    case("read_patch", patch_record([(0, 0), (5, 1)]))
+    remark("patch records: long ones")
+    for version in [1, 2]:
+        case("read_patch", [7, 250, version, 255] + [0] * 2040)
+        case("read_patch", [255, 255, version, 5] + [0] * 65_533)
+        case("read_patch", [255, 255, version, 5] + [0] * 65_534)
+        case("read_patch", [0, 42, version, 5] + [0] * 65_576)
+        case("read_patch", [0, 0, version, 5] + [0] * 65_534)
+    case("read_patch", [255, 255, 1, 200] + [0] * 65_533)
+
+
+def surface_record_cases():
+    remark("surface records: each byte changed, each truncation, bytes after the end")
+    record = surface_record(5, [(0, 1, 4), (0, 3, 4), (1, 2, 4), (2, 3, 4)])
+    case("read_surface", SQUARE, record)
+    for i, byte in enumerate(record):
+        case("read_surface", SQUARE, record[:i] + [(byte + 1) % 256] + record[i + 1 :])
+        case("read_surface", SQUARE, record[:i] + [(byte - 1) % 256] + record[i + 1 :])
+        case("read_surface", SQUARE, record[:i])
+    for extra in [[0], [2, 3, 4], [3, 4, 5], [255] * 65]:
+        case("read_surface", SQUARE, record + extra)
+    remark("surface records: fine points of the order")
+    lists = ["012 023", "023 012", "012 012 023", "012 012", "021 023", "012 024", "024", "", "012", "012 013 023"]
+    lists += ["012 034 234", "015 012", "012 023 999", "102 023", "112 023", "013 123", "012 123", "912"]
+    for names in lists:
+        surface = [tuple(map(int, name)) for name in names.split()]
+        case("read_surface", SQUARE, surface_record(5, surface))
+    for n in [0, 4, 6, 255]:
+        case("read_surface", SQUARE, surface_record(n, [(0, 1, 2), (0, 0, 9)]))
+    for short in [[], [0], [0, 0], [0, 1, 1], [0, 2, 1, 5]]:
+        case("read_surface", SQUARE, short)
+    for short in [[0, 3, 1, 5, 0], [0, 3, 1, 4, 0], [0, 3, 2, 4, 9], [0, 3, 1, 5, 9], [0, 3, 1, 4, 9]]:
+        case("read_surface", SQUARE, short)
+    case("read_surface", SQUARE, [0, 4, 1, 5, 0, 0])
+    case("read_surface", SQUARE, [3, 0, 1, 5, 255] + [0] * 765)
+    case("read_surface", SQUARE, [255, 255, 1, 5, 0] + [0] * 65_532)
+    case("read_surface", SQUARE, [255, 255, 1, 5, 0] + [0] * 65_533)
+    for patch in [GRID33, GRID25, random_patch(10, "wide"), random_patch(8, "small")]:
+        n, surfaces = len(patch), walk(patch)[1]
+        for surface in rng.sample(surfaces, 2):
+            case("read_surface", patch, surface_record(n, surface))
+            case("read_surface", patch, surface_record(n, surface[:-1]))
+            case("read_surface", patch, surface_record(n, surface[::-1]))
+
+
+def buffer_cases():
+    remark("writers: a buffer exactly long enough, one short, longer, empty")
+    for patch in [TRIANGLE, SQUARE, [(x, x * x - LIMIT) for x in range(10)]]:
+        size = 4 + 8 * len(patch)
+        for length in [size, size - 1, size + 9, 3, 0]:
+            case("write_patch", patch, [rng.randrange(256) for _ in range(length)])
+    for patch in [TRIANGLE, SQUARE, GRID33, GRID25]:
+        surface = rng.choice(walk(patch)[1])
+        size = 5 + 3 * len(surface)
+        for length in [size, size - 1, size + 9, 4, 0]:
+            lent = [rng.randrange(256) for _ in range(length)]
+            case("write_surface", patch, *words(len(patch), surface), lent)
+
+
+def main():
+    for group in [
+        document_cases, run_cases, shot_cases, extreme_cases, circuit_cases, list_cases, changed_surface_cases,
+        folded_cases, placing_cases, flip_cases, random_patch_cases, refused_shot_cases, refused_list_cases,
+        start_cases, walk_record_cases, table_cases, random_table_cases, run_length_cases, capacity_cases,
+        patch_record_cases, surface_record_cases, buffer_cases,
+    ]:
+        group()
+
+
+if __name__ == "__main__":
+    main()
