@@ -34,10 +34,10 @@ pub fn frame(b: &[u8]) -> u8
     }
     let field = fields::two(b, 0) as usize;
     let size = 2 + 8 * n;
-    if field != size {
-        return 5;
+    if field == size {
+        return 0;
     }
-    0
+    5
 }
 
 // The coordinates of n shots, and 0 in the places past them.

@@ -6,7 +6,7 @@
 --   report-surfaces     the rows of that walk keep the promise of demand 3
 --   walk-ends-so        the walk ends done, or is refused
 --   report-done         where it is done, the rows are printed, and they are exactly the surfaces that flips reach from w, each once
---   report-full         where the table is full, the rows are printed; each is a surface that flips reach from w
+--   report-full         where the table is full, the rows are printed
 use mathlib.Core.Path.{_≡_, refl, _∙_, ap}
 use mathlib.Core.Logic.{_⊎_, inl, inr, _↔_}
 use mathlib.Core.Bool.{true, false}

@@ -9,25 +9,16 @@ use mathlib.Core.List.{List, [], _∷_}
 use Prim.Native.Nat.{ℕ}
 use lib.IntN.{ℤ, pos}
 use Rattle.algebra.specs.Answer.{gives}
-use Rattle.algebra.specs.Answer.{chain, refusal}
-use Rattle.algebra.specs.Loops.{any, anyOf, first, fold, picks, tally, tabulate, run, over}
-use Rattle.algebra.specs.Sign.{signOf, opposite, value}
-use Rattle.algebra.specs.Sets.{isOn, allOn, sameList, union, dropped, maskOf, bit, nest, placeOf}
-use Rattle.algebra.specs.Words.{setBit, member, putIn, sift, rowOf, setRow}
+use Rattle.algebra.specs.Answer.{chain}
+use Rattle.algebra.specs.Loops.{any, tally, tabulate, run, over}
+use Rattle.algebra.specs.Sign.{signOf}
+use Rattle.algebra.specs.Sets.{isOn, bit, nest}
+use Rattle.algebra.specs.Words.{member, rowOf}
 use Rattle.shots.specs.Coordinates.{xOf, yOf, areaOf}
 use Rattle.shots.specs.Patch.{orientOf, betweenOf, someLeft, someRight, borderOf}
-use Rattle.shots.specs.Tests.{badCount, farAt, someFar, sameAt, sameBefore, someSame, bentAt, bentOf, bentBefore, someBent}
-use Rattle.shots.specs.Calls.{orientationOf, signAt, cocircuitOf}
-use Rattle.circuits.specs.Sides.{side, split}
+use Rattle.shots.specs.Tests.{farAt, someFar, sameAt, sameBefore, someSame, bentAt, bentOf, bentBefore, someBent}
 use Rattle.circuits.specs.Numbered.{oneIf, three, threesWith, threesFrom, threes, four, foursUpon, foursWith, foursFrom, fours, circuitsOf}
-use Rattle.circuits.specs.Calls.{countCallOf, circuitCallOf}
-use Rattle.triples.specs.Ranks.{tripleCount, tripleAt, rankOf}
-use Rattle.lists.specs.Tests.{isFlat, pastLast, someFlat, isEmpty, sidesIn, crosses, crossing, shared, openAt, openEdge, listRefusalOf}
-use Rattle.lists.specs.Calls.{testOf}
-use Rattle.surfaces.specs.Flips.{listed, supportOf, piecesOf, completes, someLink, mixedLinks, supports, joins, exchanged, flippedOf}
-use Rattle.surfaces.specs.Placing.{firstOff, beginOf, thirdIn, loneThird, visible, withEdge, withEdges, placeShot, placeNext, placedOf}
-use Rattle.surfaces.specs.Calls.{placingOf, flipOf}
-use Rattle.reach.specs.Walks.{seenIn, impossible, storeOf, tryOf, stepOf, stepsOf, runOf, startOf}
+use Rattle.triples.specs.Ranks.{tripleCount, tripleAt}
 use Rattle.algebra.specs.Writing.{ascii, digitsOf, decimalOf}
 use Rattle.shots.specs.Calls.{bordersOf}
 use Rattle.triples.specs.Sets.{sizeOf}
@@ -51,13 +42,13 @@ abbrev pub ended : Ended
 ended = record { walk = record { rows = 3; step = 9 }; table = 9 ∷ 0 ∷ 676 ∷ 0 ∷ 66 ∷ 0 ∷ [] }
 
 pub square-bytes : patchBytes square ≡ bytes
-unfolding tabulate run over bytesOf codeOf coordinateBytes patchBytes
+unfolding run over bytesOf codeOf coordinateBytes patchBytes
 square-bytes = refl
 
 pub square-read : (readPatchOf bytes .answer ≡ gives 5) × (coordinatesOf bytes ≡ square)
-unfolding chain any tally tabulate run over signOf opposite value xOf yOf areaOf orientOf betweenOf badCount farAt someFar sameAt sameBefore someSame bentAt bentOf bentBefore someBent orientationOf signAt cocircuitOf side split maskOf oneIf three threesWith threesFrom threes four foursUpon foursWith foursFrom fours circuitsOf countCallOf circuitCallOf refusal anyOf first fold picks isOn allOn sameList union dropped bit nest placeOf setBit member putIn sift someLeft someRight borderOf tripleCount tripleAt rankOf isFlat pastLast someFlat isEmpty sidesIn crosses crossing shared openAt openEdge listRefusalOf testOf listed supportOf piecesOf completes someLink mixedLinks supports joins exchanged flippedOf firstOff beginOf thirdIn loneThird visible withEdge withEdges placeShot placeNext placedOf placingOf flipOf rowOf setRow seenIn impossible storeOf tryOf stepOf stepsOf runOf startOf fieldOf signedOf misfits coordinateAt coordinatesOf readPatchOf
+unfolding chain any tabulate signOf xOf yOf areaOf orientOf farAt someFar sameAt sameBefore someSame bentAt bentOf bentBefore someBent fieldOf signedOf misfits coordinateAt coordinatesOf readPatchOf
 square-read = (refl, refl)
 
 pub square-lines : surfacesText square ended true ≡ ascii "patch 5 circuits 3 border 4 area2 8\n0 2 4 012 023\n1 4 5 014 034 124 234\n2 2 4 013 123\ndone 3 9\n"
-unfolding chain any tally tabulate run over signOf opposite value xOf yOf areaOf orientOf betweenOf badCount farAt someFar sameAt sameBefore someSame bentAt bentOf bentBefore someBent orientationOf signAt cocircuitOf side split maskOf oneIf three threesWith threesFrom threes four foursUpon foursWith foursFrom fours circuitsOf countCallOf circuitCallOf refusal anyOf first fold picks isOn allOn sameList union dropped bit nest placeOf setBit member putIn sift someLeft someRight borderOf tripleCount tripleAt rankOf isFlat pastLast someFlat isEmpty sidesIn crosses crossing shared openAt openEdge listRefusalOf testOf listed supportOf piecesOf completes someLink mixedLinks supports joins exchanged flippedOf firstOff beginOf thirdIn loneThird visible withEdge withEdges placeShot placeNext placedOf placingOf flipOf rowOf setRow seenIn impossible storeOf tryOf stepOf stepsOf runOf startOf digitsOf decimalOf usesOf usedOf shotsText tripleText rankText triplesText patchLine rowLine endWord lastLine firstLine lineAt surfacesText bordersOf sizeOf areaSumOf Areas.sizeOf
+unfolding any tally tabulate run over signOf xOf yOf areaOf orientOf betweenOf someLeft someRight borderOf bordersOf isOn bit nest member rowOf oneIf three threesWith threesFrom threes four foursUpon foursWith foursFrom fours circuitsOf tripleCount tripleAt sizeOf areaSumOf Areas.sizeOf digitsOf decimalOf usesOf usedOf shotsText tripleText rankText triplesText patchLine rowLine endWord lastLine firstLine lineAt surfacesText
 square-lines = refl

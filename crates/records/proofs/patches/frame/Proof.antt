@@ -72,10 +72,10 @@ last d t h =
     rw (fits (e .before .before), eq-eqb _ version (e .if2 .left), le-ltb _ shotsLeast (d .before .if3 .left), d .if4 .left, h) refl
 
 returns-4 : tie.Need-returns-4
-returns-4 c = last (c .before .before) true (ap not (ne-eqb _ _ (λ z. c .if5 .taken (c .before .two .ensures .0 ∙ z))))
+returns-4 c = last (c .before .before) false (ap not (eq-eqb _ _ (sym (c .before .two .ensures .0) ∙ c .if5 .taken)))
 
 returns-5 : tie.Need-returns-5
-returns-5 c = last (c .before .before) false (ap not (eq-eqb _ _ (sym (c .before .two .ensures .0) ∙ c .if5 .left)))
+returns-5 c = last (c .before .before) true (ap not (ne-eqb _ _ (λ z. c .if5 .left (c .before .two .ensures .0 ∙ z))))
 
 pub frame-spec : {M : Type 1} → statement M
 frame-spec =
