@@ -2,8 +2,10 @@
 --
 --   read-then-write-patch, write-then-read-patch
 --   read-then-write-surface, write-then-read-surface
+--   patch-exactly, surface-exactly               a reader accepts exactly the records of accepted patches and lists, and gives back these
 --   patch-bytes-differ, surface-bytes-differ     different patches, different lists of one patch have different records
 use mathlib.Core.Path.{_≡_, refl, sym, _∙_, ap, subst}
+use mathlib.Core.Logic.{_↔_}
 use mathlib.Core.Bool.{Bool, true, false}
 use mathlib.Core.List.{List, [], _∷_, _++_}
 use Prim.Native.Nat.{ℕ, _≤_}
@@ -34,23 +36,38 @@ use Rattle.records.proofs.SurfaceTrips.{surface-bytes-again, surface-re
 
 -- ---- patches
 
+-- the record of an accepted patch is read
+patch-reads : (l : List ℤ) → refusalOf l ≡ 0 → (readPatchOf (patchBytes l) .answer ≡ gives (countOf l)) × (coordinatesOf (patchBytes l) ≡ l)
+unfolding readPatchOf
+patch-reads l h = (unbroken-gives (patchRules (patchBytes l)) (getD (patchBytes l) 3 0) (patch-unbroken l h) ∙ ap gives (patch-head l h .shots), patch-read-again l h)
+
+-- a record that is read is that of the patch it gives
+patch-is : (b : List ℕ) → Bytes b → (n : ℕ) → readPatchOf b .answer ≡ gives n → Unbroken (shotRules (coordinatesOf b)) × (patchBytes (coordinatesOf b) ≡ b)
+unfolding readPatchOf
+patch-is b v n e =
+    let u = gives-unbroken (patchRules b) (getD b 3 0) n e .0 in
+    (coordinates-kept b u, patch-bytes-again b v (append-unbroken (patchFrame b) (placeRules (coordinatesOf b)) u .0))
+
+pub patch-exactly : (b : List ℕ) → Bytes b → (l : List ℤ) → ((readPatchOf b .answer ≡ gives (countOf l)) × (coordinatesOf b ≡ l)) ↔ ((refusalOf l ≡ 0) × (b ≡ patchBytes l))
+unfolding refusalOf
+patch-exactly b v l = (
+  λ (e, q). let (u, s) = patch-is b v (countOf l) e in (subst (λ (m : List ℤ). refusalOf m ≡ 0) q (unbroken-refusal (shotRules (coordinatesOf b)) u), sym s ∙ ap patchBytes q),
+  λ (h, s). subst (λ (c : List ℕ). (readPatchOf c .answer ≡ gives (countOf l)) × (coordinatesOf c ≡ l)) (sym s) (patch-reads l h),
+)
+
 pub read-then-write-patch : (b : List ℕ) → Bytes b → (n : ℕ) → readPatchOf b .answer ≡ gives n → (t : List ℕ) → length b ≤ length t
     → writePatchOf (coordinatesOf b) t ≡ record { answer = gives (length b); buffer = b ++ drop (length b) t }
-unfolding readPatchOf writePatchOf
+unfolding writePatchOf
 read-then-write-patch b v n e t h =
-    let u = gives-unbroken (patchRules b) (getD b 3 0) n e .0 in
-    ap (λ (s : List ℕ). writeOf (shotRules (coordinatesOf b)) s t) (patch-bytes-again b v (append-unbroken (patchFrame b) (placeRules (coordinatesOf b)) u .0))
-    ∙ writes (shotRules (coordinatesOf b)) b t (coordinates-kept b u) h
+    let (u, s) = patch-is b v n e in
+    ap (λ (c : List ℕ). writeOf (shotRules (coordinatesOf b)) c t) s ∙ writes (shotRules (coordinatesOf b)) b t u h
 
 pub write-then-read-patch : (l : List ℤ) (t : List ℕ) (k : ℕ) → writePatchOf l t .answer ≡ gives k
     → (readPatchOf (take k (writePatchOf l t .buffer)) .answer ≡ gives (countOf l)) × (coordinatesOf (take k (writePatchOf l t .buffer)) ≡ l)
-unfolding readPatchOf writePatchOf refusalOf
+unfolding writePatchOf refusalOf
 write-then-read-patch l t k e =
     let (u, _, s) = written (shotRules l) (patchBytes l) t k e in
-    subst (λ (b : List ℕ). (readPatchOf b .answer ≡ gives (countOf l)) × (coordinatesOf b ≡ l)) (sym s) (accepted (unbroken-refusal (shotRules l) u))
-  where
-    accepted : refusalOf l ≡ 0 → (readPatchOf (patchBytes l) .answer ≡ gives (countOf l)) × (coordinatesOf (patchBytes l) ≡ l)
-    accepted h = (unbroken-gives (patchRules (patchBytes l)) (getD (patchBytes l) 3 0) (patch-unbroken l h) ∙ ap gives (patch-head l h .shots), patch-read-again l h)
+    subst (λ (b : List ℕ). (readPatchOf b .answer ≡ gives (countOf l)) × (coordinatesOf b ≡ l)) (sym s) (patch-reads l (unbroken-refusal (shotRules l) u))
 
 pub patch-bytes-differ : (l m : List ℤ) → refusalOf l ≡ 0 → refusalOf m ≡ 0 → patchBytes l ≡ patchBytes m → l ≡ m
 patch-bytes-differ l m h k e = sym (patch-read-again l h) ∙ ap coordinatesOf e ∙ patch-read-again m k
@@ -61,25 +78,22 @@ few-shots : (l : List ℤ) → Unbroken (shotRules l) → countOf l ≤ shotsMos
 unfolding refusalOf
 few-shots l u = patch-few l (unbroken-refusal (shotRules l) u) .1
 
+-- a record that is read is that of the list it gives
+surface-is : (l : List ℤ) (b : List ℕ) → Bytes b → (w : List ℕ) → readSurfaceOf l b ≡ gives w → Unbroken (shotRules l ++ listRules l w) × (surfaceBytes (countOf l) w ≡ b)
+unfolding readSurfaceOf
+surface-is l b v w e =
+    let (u, q) = gives-unbroken (surfaceRules l b) (listedOf (countOf l) b) w e in
+    let (shots, rest) = append-unbroken (shotRules l) (surfaceFrame (countOf l) b ++ tripleRule (countOf l) b ∷ listRules l (listedOf (countOf l) b)) u in
+    let (frame, (form, list)) = append-unbroken (surfaceFrame (countOf l) b) (tripleRule (countOf l) b ∷ listRules l (listedOf (countOf l) b)) rest in
+    subst (λ (x : List ℕ). Unbroken (shotRules l ++ listRules l x) × (surfaceBytes (countOf l) x ≡ b)) q
+    (unbroken-append (shotRules l) (listRules l (listedOf (countOf l) b)) shots list, surface-bytes-again (countOf l) b (few-shots l shots) v frame form)
+
 pub read-then-write-surface : (l : List ℤ) (b : List ℕ) → Bytes b → (w : List ℕ) → readSurfaceOf l b ≡ gives w → (t : List ℕ) → length b ≤ length t
     → writeSurfaceOf l w t ≡ record { answer = gives (length b); buffer = b ++ drop (length b) t }
-unfolding readSurfaceOf writeSurfaceOf
+unfolding writeSurfaceOf
 read-then-write-surface l b v w e t h =
-    subst (λ (x : List ℕ). writeSurfaceOf l x t ≡ record { answer = gives (length b); buffer = b ++ drop (length b) t }) (r .1)
-    (ap (λ (s : List ℕ). writeOf (shotRules l ++ listRules l listed) s t) (surface-bytes-again (countOf l) b (few-shots l (shots .0)) v (frame .0) (frame .1 .0))
-    ∙ writes (shotRules l ++ listRules l listed) b t (unbroken-append (shotRules l) (listRules l listed) (shots .0) (frame .1 .1)) h)
-  where
-    listed : List ℕ
-    listed = listedOf (countOf l) b
-
-    r : Unbroken (surfaceRules l b) × (listed ≡ w)
-    r = gives-unbroken (surfaceRules l b) listed w e
-
-    shots : Unbroken (shotRules l) × Unbroken (surfaceFrame (countOf l) b ++ tripleRule (countOf l) b ∷ listRules l listed)
-    shots = append-unbroken (shotRules l) (surfaceFrame (countOf l) b ++ tripleRule (countOf l) b ∷ listRules l listed) (r .0)
-
-    frame : Unbroken (surfaceFrame (countOf l) b) × Unbroken (tripleRule (countOf l) b ∷ listRules l listed)
-    frame = append-unbroken (surfaceFrame (countOf l) b) (tripleRule (countOf l) b ∷ listRules l listed) (shots .1)
+    let (u, s) = surface-is l b v w e in
+    ap (λ (c : List ℕ). writeOf (shotRules l ++ listRules l w) c t) s ∙ writes (shotRules l ++ listRules l w) b t u h
 
 -- a list that is accepted, with its patch
 module _ (l : List ℤ) (w : List ℕ) (v : Words wordCount w) (u : Unbroken (shotRules l ++ listRules l w)) where
@@ -124,3 +138,10 @@ unfolding testOf
 surface-bytes-differ l w v p q f g e =
     sym (list-read-again l w p (gives-unbroken (shotRules l ++ listRules l w) tt tt f .0)) ∙ ap (listedOf (countOf l)) e
     ∙ list-read-again l v q (gives-unbroken (shotRules l ++ listRules l v) tt tt g .0)
+
+pub surface-exactly : (l : List ℤ) (b : List ℕ) → Bytes b → (w : List ℕ) → Words wordCount w → (readSurfaceOf l b ≡ gives w) ↔ ((testOf l w ≡ gives tt) × (b ≡ surfaceBytes (countOf l) w))
+unfolding testOf
+surface-exactly l b p w v = (
+  λ e. let (u, s) = surface-is l b p w e in (unbroken-gives (shotRules l ++ listRules l w) tt u, sym s),
+  λ (f, s). ap (readSurfaceOf l) s ∙ read-again l w v (gives-unbroken (shotRules l ++ listRules l w) tt tt f .0),
+)

@@ -1,5 +1,6 @@
 -- What the report promises of a patch record, beyond its text (specs/Report).
 --
+--   report-one          two permitted texts are the same
 --   report-refused      a refused record: its number, and nothing else
 --   report-read         an accepted one: what placing answers decides
 --   report-walk         where that is a surface w: the walk from w
@@ -7,7 +8,7 @@
 --   walk-ends-so        the walk ends done, or is refused
 --   report-done         where it is done, the rows are printed, and they are exactly the surfaces that flips reach from w, each once
 --   report-full         where the table is full, the rows are printed
-use mathlib.Core.Path.{_≡_, refl, _∙_, ap}
+use mathlib.Core.Path.{_≡_, refl, sym, _∙_, ap}
 use mathlib.Core.Logic.{_⊎_, inl, inr, _↔_}
 use mathlib.Core.Bool.{true, false}
 use mathlib.Core.List.{List}
@@ -28,10 +29,13 @@ use Rattle.walks.specs.Surfaces.{Surfaces, Reachable}
 use Rattle.walks.proofs.Theorem.{plane-sound, walk-surfaces}
 use Rattle.records.specs.Reading.{coordinatesOf}
 use Rattle.records.specs.Calls.{readPatchOf}
-use Rattle.text.specs.Lines.{refusedLine}
+use Rattle.text.specs.Lines.{Put, refusedLine}
 use Rattle.report.specs.Sizes.{stepsMost}
 use Rattle.report.specs.Report.{walkOf, surfacesText, endText, endOf, walkText, placedText, patchText, reportOf}
 use Rattle.report.proofs.WalkLaws.{placing-tested, begun-walked, walk-walked, walk-not-made, walk-not-started}
+
+pub report-one : (b t : List ℕ) {u u′ : List ℕ} {r r′ : ℕ} → Put t 0 (reportOf b) u r → Put t 0 (reportOf b) u′ r′ → (r ≡ r′) × (u ≡ u′)
+report-one b t (p, e) (p′, e′) = (p ∙ sym p′, e ∙ sym e′)
 
 pub report-refused : (b : List ℕ) (n : ℕ) → readPatchOf b .answer ≡ refuses n → reportOf b ≡ refusedLine n
 unfolding reportOf
