@@ -3,7 +3,7 @@
 --   wrote-length     the length stays
 --   wrote-append     one run, then another behind it
 --   wrote-parts      what stands before and behind the written run stays
---   wrote-front, wrote-taken, wrote-left     a run written at the front: all, the run itself, and what stands behind it
+--   wrote-front, wrote-taken     a run written at the front: all, and the run itself
 --   wrote-none, wrote-turn, wrote-end     a loop that writes one element a turn
 --   pieces-length    as many places as the pieces that are left have
 --   Putting f n t at i out next    of the pieces f 0, .. , f (n - 1), put at place at of t, those before i are there: out is what t is now, next the place behind them
@@ -16,7 +16,7 @@ use native.Mathlib.Omega.{arith}
 use native.Mathlib.Numerals.{add-one}
 use native.Mathlib.Nat.{add-zero, zero-add}
 use lib.ListN.{length, getD, set, take, drop, length-set, length-append}
-use lib.Seq.{drop-cons, take-at, drop-at}
+use lib.Seq.{drop-cons, take-at}
 use Rattle.algebra.specs.Loops.{over}
 use Rattle.algebra.specs.Writing.{wrote}
 use Rattle.algebra.proofs.OverLaws.{over-turn, over-end}
@@ -65,9 +65,6 @@ module _ {A : Type 0} where
 
   pub wrote-taken : (t s : List A) → length s ≤ length t → take (length s) (wrote t 0 s) ≡ s
   wrote-taken t s h = ap (take (length s)) (wrote-front t s h) ∙ take-at s (drop (length s) t) (length s) refl
-
-  pub wrote-left : (t s : List A) → length s ≤ length t → drop (length s) (wrote t 0 s) ≡ drop (length s) t
-  wrote-left t s h = ap (drop (length s)) (wrote-front t s h) ∙ drop-at s (drop (length s) t) (length s) refl
 
   -- ---- a loop that writes the elements of s
 

@@ -4,6 +4,7 @@
 --   read-patch-refuses, read-patch-gives
 --   read-patch-coordinates, read-patch-front, read-patch-refused    the array beside the answer
 --   read-patch-count, read-patch-accepted         what is read is an accepted patch, of as many shots as the answer says
+--   read-patch-long     more bytes than a length field can frame are refused with 5
 --   write-patch-refuses, write-patch-gives, write-surface-refuses, write-surface-gives
 --   write-patch-refused, write-surface-refused    a writer that refuses leaves the buffer as it was
 --   write-patch-buffer, write-surface-buffer      one that does not writes the record's own bytes, and no other
@@ -13,9 +14,9 @@
 --
 -- That the tests decide the lines: proofs/Agreement. Source: document 01, "Records", "Refusal numbers".
 use mathlib.Core.Path.{_≡_, refl, sym, _∙_, ap, subst}
-use mathlib.Core.Logic.{_↔_}
+use mathlib.Core.Logic.{inl, _↔_}
 use mathlib.Core.List.{List, [], _∷_, _++_}
-use Prim.Native.Nat.{ℕ, _*_}
+use Prim.Native.Nat.{ℕ, _+_, _*_, _^_, _≤_, _<_}
 use native.Mathlib.Omega.{arith}
 use lib.ListN.{getD, length, replicate, take, drop}
 use lib.IntN.{ℤ, pos}
@@ -36,6 +37,7 @@ use Rattle.surfaces.specs.Calls.{readSurface}
 use Rattle.surfaces.specs.declared.Surface.{Surface}
 use Rattle.surfaces.proofs.Promises.{surface-one}
 use Rattle.records.specs.Sizes.{coordinatesMost}
+use Rattle.records.specs.Fields.{Bytes, fieldOf}
 use Rattle.records.specs.Formats.{patchBytes, surfaceBytes}
 use Rattle.records.specs.Reading.{coordinatesOf, patchFrame, patchRules, surfaceFrame, tripleRule, listedOf}
 use Rattle.records.specs.Lines.{readPatchLines, surfaceFrameLines, OutOfForm, readSurfaceLines, NoRoom, writePatchLines, writeSurfaceLines}
@@ -46,6 +48,7 @@ use Rattle.records.specs.declared.Patched.the-variants as P
 use Rattle.records.specs.declared.Patch.{Patch}
 use Rattle.records.specs.declared.Written.{Written}
 use Rattle.records.specs.declared.Written.the-variants as W
+use Rattle.records.proofs.FieldLaws.{field-low}
 use Rattle.records.proofs.FormatLaws.{patch-framed, coordinates-length, coordinates-kept}
 use Rattle.records.proofs.CallChains.{coordinates-taken, written}
 use Rattle.records.proofs.Agreement.{patch-decided, surface-decided}
@@ -88,6 +91,12 @@ module _ (b : List ℕ) where
     pub read-patch-accepted : refusalOf (coordinatesOf b) ≡ 0
     unfolding refusalOf
     read-patch-accepted = unbroken-refusal (shotRules (coordinatesOf b)) (coordinates-kept b unbroken)
+
+pub read-patch-long : (b : List ℕ) → Bytes b → 65538 ≤ length b → readPatchOf b .answer ≡ refuses 5
+read-patch-long b v h = read-patch-refuses b 5 .1 (inl (λ (k, e). over e (field-low 2 b 0 v), refl))
+  where
+    over : fieldOf 2 b 0 + 2 ≡ length b → fieldOf 2 b 0 < 256 ^ 2 → ⊥
+    over e l = omega arith
 
 -- ---- writers: the rules of the shots, then those of rs, which decide the lines ls for accepted shots, then the room for the bytes s in the buffer t
 

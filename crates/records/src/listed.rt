@@ -11,7 +11,7 @@ ghost use Rattle.triples.specs.Ranks.{tripleCount, tripleAt};
 ghost use Rattle.triples.specs.Sets.{wordsOf, sizeOf};
 ghost use Rattle.surfaces.specs.Calls.{readSurface};
 ghost use Rattle.records.specs.Formats.{tripleBytes, surfaceBytes};
-ghost use Rattle.records.specs.Reading.{surfaceFrame, tripleIn, inForm, tripleRule, listedOf};
+ghost use Rattle.records.specs.Reading.{surfaceFrame, inForm, tripleRule, listedOf};
 ghost use Rattle.records.specs.Calls.{framedOf};
 use super::VERSION;
 use super::fields;

@@ -2,6 +2,7 @@
 --
 --   report-one          two permitted texts are the same
 --   report-refused      a refused record: its number, and nothing else
+--   report-long         so it is for all that is longer than a record can be, with 5: reading more bytes than that changes nothing
 --   report-read         an accepted one: what placing answers decides
 --   report-walk         where that is a surface w: the walk from w
 --   report-surfaces     the rows of that walk keep the promise of demand 3
@@ -12,7 +13,7 @@ use mathlib.Core.Path.{_≡_, refl, sym, _∙_, ap}
 use mathlib.Core.Logic.{_⊎_, inl, inr, _↔_}
 use mathlib.Core.Bool.{true, false}
 use mathlib.Core.List.{List}
-use Prim.Native.Nat.{ℕ, _*_}
+use Prim.Native.Nat.{ℕ, _*_, _≤_}
 use lib.ListN.{length}
 use lib.IntN.{ℤ}
 use Rattle.algebra.specs.Answer.{Answer, gives, refuses}
@@ -27,8 +28,10 @@ use Rattle.surfaces.specs.Calls.{placingOf}
 use Rattle.surfaces.proofs.Promises.{placing-words}
 use Rattle.walks.specs.Surfaces.{Surfaces, Reachable}
 use Rattle.walks.proofs.Theorem.{plane-sound, walk-surfaces}
+use Rattle.records.specs.Fields.{Bytes}
 use Rattle.records.specs.Reading.{coordinatesOf}
 use Rattle.records.specs.Calls.{readPatchOf}
+use Rattle.records.proofs.Promises.{read-patch-long}
 use Rattle.text.specs.Lines.{Put, refusedLine}
 use Rattle.report.specs.Sizes.{stepsMost}
 use Rattle.report.specs.Report.{walkOf, surfacesText, endText, endOf, walkText, placedText, patchText, reportOf}
@@ -40,6 +43,9 @@ report-one b t (p, e) (p′, e′) = (p ∙ sym p′, e ∙ sym e′)
 pub report-refused : (b : List ℕ) (n : ℕ) → readPatchOf b .answer ≡ refuses n → reportOf b ≡ refusedLine n
 unfolding reportOf
 report-refused b n e = ap (λ (a : Answer ℕ). patchText (coordinatesOf b) a) e
+
+pub report-long : (b : List ℕ) → Bytes b → 65538 ≤ length b → reportOf b ≡ refusedLine 5
+report-long b v h = report-refused b 5 (read-patch-long b v h)
 
 pub report-read : (b : List ℕ) (n : ℕ) → readPatchOf b .answer ≡ gives n → reportOf b ≡ placedText (coordinatesOf b) (placingOf (coordinatesOf b))
 unfolding reportOf

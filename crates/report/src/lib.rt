@@ -3,8 +3,6 @@
 //   report    how many bytes of the lent text are the report
 //
 // It takes every input; specs/Report.antt says what the text is.
-ghost use mathlib.Core.Path.{_≡_};
-ghost use lib.ListN.{length};
 ghost use Rattle.io.specs.Counts.{Counts};
 ghost use Rattle.text.specs.Lines.{Put};
 ghost use Rattle.report.specs.Report.{reportOf};
@@ -20,7 +18,7 @@ pub const TABLE_ROWS: usize = 4096;
 pub const TABLE_WORDS: usize = triples::WORDS * TABLE_ROWS;
 
 // More steps than a walk can take in any table.
-pub const STEPS_MOST: usize = 65535 * circuits::CIRCUITS_MOST + 1;
+pub const STEPS_MOST: usize = walks::ROWS_MOST * circuits::CIRCUITS_MOST + 1;
 
 // No report is longer: a line for each row, and two more.
 pub const REPORT_MOST: usize = (TABLE_ROWS + 2) * LINE_MOST;

@@ -2,7 +2,7 @@
 ghost use mathlib.Core.Path.{_≡_};
 ghost use Prim.Native.Nat.{_*_, _≤_, _<_};
 ghost use lib.ListN.{length};
-ghost use Rattle.shots.specs.Sizes.{shotsMost};
+ghost use Rattle.shots.specs.Sizes.{shotsMost, reach};
 ghost use Rattle.shots.specs.Patch.{countOf};
 ghost use Rattle.shots.specs.Tests.{Near};
 ghost use Rattle.triples.specs.Sizes.{wordCount};
@@ -34,7 +34,7 @@ pub fn used(held: &[u64], n: usize, list: Triples) -> usize
 // The double area of the triple of rank r.
 fn area_at(shots: &[i32], r: usize) -> u64
     requires { ⌜ Near (now shots) × (countOf (now shots) ≤ shotsMost) × (r < tripleCount (countOf (now shots))) ⌝ }
-    ensures { λ x. ⌜ (x ≡ sizeOf (now (shots .entry)) (tripleAt (countOf (now (shots .entry))) r)) × (x ≤ 8000000000000) ⌝ }
+    ensures { λ x. ⌜ (x ≡ sizeOf (now (shots .entry)) (tripleAt (countOf (now (shots .entry))) r)) × (x ≤ 8 * reach * reach) ⌝ }
 {
     let s = ranks::triple_at(shots.len() / 2, r);
     shots::plane::size(shots, s.i, s.j, s.k)

@@ -5,10 +5,10 @@ ghost use Prim.Native.Nat.{_+_, _*_, _≤_, _<_};
 ghost use lib.ListN.{length};
 ghost use Rattle.algebra.specs.Writing.{decimalOf};
 ghost use Rattle.shots.specs.Sizes.{shotsMost};
-ghost use Rattle.triples.specs.Sizes.{wordCount};
+ghost use Rattle.triples.specs.Sizes.{wordCount, triplesMost};
 ghost use Rattle.triples.specs.Ranks.{tripleCount, tripleAt};
 ghost use Rattle.triples.specs.Sets.{wordsOf, Holding};
-ghost use Rattle.text.specs.Sizes.{lineMost};
+ghost use Rattle.text.specs.Sizes.{decimalMost, lineMost};
 ghost use Rattle.text.specs.Lines.{Put, tripleText, triplesText, patchLine, rowLine, endWord, lastLine, refusedLine};
 use super::counts;
 use super::put;
@@ -51,8 +51,8 @@ fn triple(out: &mut [u8], at: usize, n: usize, r: usize) -> usize
 
 // The triples of the list, in the order of their ranks.
 fn triples_of(out: &mut [u8], at: usize, n: usize, list: Triples) -> usize
-    requires { ⌜ (n ≤ shotsMost) × (at + 480 ≤ length (now out)) ⌝ }
-    ensures { λ q. ⌜ Put (now (out .entry)) at (triplesText n (wordsOf list)) (now (out .exit)) q × (q ≤ at + 480) ⌝ }
+    requires { ⌜ (n ≤ shotsMost) × (at + 4 * triplesMost ≤ length (now out)) ⌝ }
+    ensures { λ q. ⌜ Put (now (out .entry)) at (triplesText n (wordsOf list)) (now (out .exit)) q × (q ≤ at + 4 * triplesMost) ⌝ }
 {
     let count = ranks::count(n);
     let mut next = at;
@@ -91,8 +91,8 @@ pub fn last(out: &mut [u8], at: usize, done: bool, rows: usize, steps: usize) ->
 }
 
 fn ending(out: &mut [u8], at: usize, done: bool, rows: u64) -> usize
-    requires { ⌜ at + 25 ≤ length (now out) ⌝ }
-    ensures { λ r. ⌜ Put (now (out .entry)) at (endWord done ++ decimalOf rows) (now (out .exit)) r × (r ≤ at + 25) ⌝ }
+    requires { ⌜ at + 5 + decimalMost ≤ length (now out) ⌝ }
+    ensures { λ r. ⌜ Put (now (out .entry)) at (endWord done ++ decimalOf rows) (now (out .exit)) r × (r ≤ at + 5 + decimalMost) ⌝ }
 {
     if done {
         put::field(out, at, b"done ", rows)

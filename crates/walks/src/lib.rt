@@ -14,6 +14,8 @@ use triples::Triples;
 mod steps;
 mod table;
 
+pub use table::ROWS_MOST;
+
 // The walk record: how many rows of the table are in use, and the number of the next step.
 pub struct Walk {
     pub rows: usize,
