@@ -9,14 +9,14 @@ ghost use Rattle.circuits.specs.Numbered.{circuitsOf};
 ghost use Rattle.triples.specs.Sizes.{wordCount};
 ghost use Rattle.triples.specs.Sets.{wordsOf, Written, Holding};
 ghost use Rattle.lists.specs.Tests.{listRefusalOf};
-ghost use Rattle.surfaces.specs.Stars.{starOf};
-ghost use Rattle.surfaces.specs.Calls.{readSurface, flipOf};
+ghost use Rattle.surfaces.specs.Stars.{starOf, foundAnswer};
+ghost use Rattle.surfaces.specs.Calls.{flipOf};
 ghost use Rattle.ready.specs.Ready.{readyRows, Ready};
 use circuits::CIRCUITS_MOST;
 use lists::HELD_ROWS;
 use lists::core;
-use surfaces::Surface;
 use surfaces::flips;
+use surfaces::flips::Turned;
 use triples::Triples;
 use triples::WORDS;
 use triples::rows;
@@ -61,8 +61,8 @@ pub fn prepare(shots: &[i32], plus: &mut [u16], minus: &mut [u16], held: &mut [u
     count
 }
 
-// The flip of an accepted list along circuit z.
-pub fn flip(
+// The flip of an accepted list along circuit z, its result not yet tested.
+pub fn turn(
     shots: &[i32],
     plus: &[u16],
     minus: &[u16],
@@ -70,14 +70,13 @@ pub fn flip(
     count: usize,
     list: Triples,
     z: usize,
-) -> Surface
+) -> Turned
     requires { ⌜ (refusalOf (now shots) ≡ 0) × Ready (now shots) (now plus) (now minus) (now held) × (count ≡ length (circuitsOf (now shots))) × (listRefusalOf (now shots) (wordsOf list) ≡ 0) × (z < count) ⌝ }
-    ensures { λ r. ⌜ readSurface r ≡ flipOf (now (shots .entry)) (wordsOf list) z ⌝ }
+    ensures { λ r. ⌜ foundAnswer (now (shots .entry)) (r .found) (wordsOf (r .list)) ≡ flipOf (now (shots .entry)) (wordsOf list) z ⌝ }
 {
-    flips::tested(
-        shots,
+    flips::between(
         held,
-        count,
+        shots.len() / 2,
         plus[z] + minus[z],
         rows::row_at(held, PLUS_STARS + z),
         rows::row_at(held, MINUS_STARS + z),

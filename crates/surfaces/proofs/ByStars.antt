@@ -2,7 +2,7 @@
 --
 --   none-holds                  no triple of such a list holds all shots of a circuit: three of them are flat, four are too many
 --   plusPieces, minusPieces     the pieces of the two sides of circuit z
---   sum-bits, sum-low           the masks of the sides, summed: the mask of the circuit's shots, which fits its width
+--   sum-bits, sum-below, sum-low    the masks of the sides, summed: the mask of the circuit's shots, with no bit past the shots, which fits its width
 --   supported-plus, supported-minus    a side is supported by its star exactly when its pieces are supported
 --   turned-plus, turned-minus          and then the list turned is the list with the pieces exchanged
 --   found-along, list-along     what the code finds along a circuit: whether there is a flip, and the list after it
@@ -89,10 +89,13 @@ module _ (l : List ℤ) (few : countOf l ≤ shotsMost) (z : ℕ) (low : z < len
   unfolding supportOf
   sum-bits i = ap (λ (x : ℕ). bit x i) sum-masks ∙ bit-union n (Z .plus) (Z .minus) (proper .within-plus) (proper .within-minus) (proper .apart) i
 
-  pub sum-low : p + m < 2 ^ maskBits
-  sum-low =
+  pub sum-below : p + m < 2 ^ countOf l
+  sum-below =
       let e : p + m ≡ maskOf (union n (Z .plus) (Z .minus)) = sum-masks ∙ mask-union n (Z .plus) (Z .minus) (proper .within-plus) (proper .within-minus) (proper .apart) in
-      omega (arith, mask-below n (union n (Z .plus) (Z .minus)) (union-within n (Z .plus) (Z .minus)), pow-mono {i = n} {j = maskBits} (omega arith))
+      omega (arith, mask-below n (union n (Z .plus) (Z .minus)) (union-within n (Z .plus) (Z .minus)))
+
+  pub sum-low : p + m < 2 ^ maskBits
+  sum-low = omega (arith, sum-below, pow-mono {i = n} {j = maskBits} (omega arith))
 
   side-part : (s : Sign) (y : ℕ) → y ≡ maskOf (sideOf (circuitAt l z) s) → PartOf (countOf l) (supportOf (countOf l) (circuitAt l z)) y (sideOf (circuitAt l z) s)
   side-part s y e =

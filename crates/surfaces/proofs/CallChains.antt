@@ -1,7 +1,8 @@
 -- The chains of refusals of `placing` and `flip`, test by test as the code makes them.
 --
 --   placing-bad, placing-good          the result fails the test, or is given
---   turn-none, turn-bad, turn-good     between two stars: neither is supported; the result fails the test; it is given
+--   found-none, found-bad, found-good  no flip is found; the result fails the test; it is given
+--   turn-is                            what is found between two stars, from what the callees gave
 --   flip-stops, flip-unlisted, flip-unnumbered    the shots are refused, the list is; there is no such circuit
 --   turned-along                       the answer between the stars of the circuit's sides is the flip's
 --   flip-turned                        the same of an answer and stars that the callees gave
@@ -29,7 +30,7 @@ use Rattle.lists.proofs.Chains.{list-refused, list-passed}
 use Rattle.surfaces.specs.Flips.{flippedOf}
 use Rattle.surfaces.specs.Placing.{placedOf}
 use Rattle.surfaces.specs.Calls.{badResult, placingOf, flipRules, flipOf}
-use Rattle.surfaces.specs.Stars.{starOf, foundBy, flippedBy, noTurn, turnAnswer}
+use Rattle.surfaces.specs.Stars.{starOf, foundBy, flippedBy, foundAnswer, turnAnswer}
 use Rattle.surfaces.proofs.ByStars.{found-along, list-along}
 
 -- the test of a result w; `v` and `s` are what the callees gave
@@ -55,33 +56,30 @@ module _ (l : List ℤ) {r : ℕ} (e : r ≡ refusalOf l) (h : r ≡ 0) {v : Lis
   pub placing-good : s ≡ 0 → gives v ≡ placingOf l
   placing-good g = result-good l (placedOf l) q f g ∙ behind-shots
 
--- between two stars; `b`, `v` and `s` are what the callees gave
-module _ (l : List ℤ) (x : ℕ) (t u w : List ℕ) {b : Bool} (p : b ≡ foundBy (countOf l) x t u w) where
-  abbrev turned : List ℕ
-  turned = flippedBy (countOf l) x t u w
+-- a flip that found the list v, or none; `s` is what the test gave
+module _ (l : List ℤ) (b : Bool) (v : List ℕ) where
+  pub found-none : b ≡ false → refuses 13 ≡ foundAnswer l b v
+  unfolding foundAnswer
+  found-none h = chain-broken _ (badResult l v ∷ []) v (ap not h)
 
-  pub turn-none : b ≡ false → refuses 13 ≡ turnAnswer l x t u w
-  unfolding turnAnswer
-  turn-none h = chain-broken (noTurn l x t u w) _ turned (ap not (sym p ∙ h))
+  module _ (h : b ≡ true) {s : ℕ} (f : s ≡ listRefusalOf l v) where
+    found-on : chain (badResult l v ∷ []) v ≡ foundAnswer l b v
+    unfolding foundAnswer
+    found-on = chain-kept _ (badResult l v ∷ []) v (ap not h)
 
-  module _ (h : b ≡ true) {v : List ℕ} (q : v ≡ flippedBy (countOf l) x t u w) {s : ℕ} (f : s ≡ listRefusalOf l v) where
-    found-on : chain (badResult l turned ∷ []) turned ≡ turnAnswer l x t u w
-    unfolding turnAnswer
-    found-on = chain-kept (noTurn l x t u w) _ turned (ap not (sym p ∙ h))
+    pub found-bad : (s ≡ 0 → ⊥) → refuses 14 ≡ foundAnswer l b v
+    found-bad g = result-bad l v refl f g ∙ found-on
 
-    pub turn-bad : (s ≡ 0 → ⊥) → refuses 14 ≡ turnAnswer l x t u w
-    turn-bad g = result-bad l turned q f g ∙ found-on
+    pub found-good : s ≡ 0 → gives v ≡ foundAnswer l b v
+    found-good g = result-good l v refl f g ∙ found-on
 
-    pub turn-good : s ≡ 0 → gives v ≡ turnAnswer l x t u w
-    turn-good g = result-good l turned q f g ∙ found-on
+-- between two stars; `b` and `v` are what the callees gave
+pub turn-is : (l : List ℤ) (x : ℕ) (t u w : List ℕ) {b : Bool} → b ≡ foundBy (countOf l) x t u w → {v : List ℕ} → v ≡ flippedBy (countOf l) x t u w → foundAnswer l b v ≡ turnAnswer l x t u w
+turn-is l x t u w p q = λ k. foundAnswer l (p k) (q k)
 
--- a flip that is found or not, and its result where it is
-abbrev found-then : List ℤ → Bool → List ℕ → Answer (List ℕ)
-found-then l b v = chain (record { number = 13; broken = not b } ∷ badResult l v ∷ []) v
-
-found-same : (l : List ℤ) {a : Bool} (b : Bool) {u v : List ℕ} → a ≡ b → (b ≡ true → u ≡ v) → found-then l a u ≡ found-then l b v
-unfolding chain
-found-same l true e f = λ k. found-then l (e k) (f refl k)
+found-same : (l : List ℤ) {a : Bool} (b : Bool) {u v : List ℕ} → a ≡ b → (b ≡ true → u ≡ v) → foundAnswer l a u ≡ foundAnswer l b v
+unfolding foundAnswer chain
+found-same l true e f = λ k. foundAnswer l (e k) (f refl k)
 found-same l false e f = rw e refl
 
 module _ (l : List ℤ) (w : List ℕ) (z : ℕ) {r : ℕ} (e : r ≡ refusalOf l) where
@@ -108,7 +106,7 @@ module _ (l : List ℤ) (w : List ℕ) (z : ℕ) {r : ℕ} (e : r ≡ refusalOf 
       -- p and m are the masks of the circuit's sides; t, u and v are what the callees gave
       module _ (words : Words wordCount w) (low : z < length (circuitsOf l)) (p m : ℕ) (sided : (p ≡ masks (circuitAt l z) .plus) × (m ≡ masks (circuitAt l z) .minus)) where
         pub turned-along : turnAnswer l (p + m) (starOf (countOf l) p (p + m)) (starOf (countOf l) m (p + m)) w ≡ flipOf l w z
-        unfolding turnAnswer
+        unfolding foundAnswer
         turned-along =
             let few = patch-few l (sym e ∙ h) .1 in
             let solid = accepted-solid l w (sym f ∙ k) .1 in

@@ -5,6 +5,7 @@ pub mod Balance
 pub mod AreaKept
 pub mod StarLaws
 pub mod StarLinks
+pub mod FourLaws
 pub mod ByStars
 pub mod FlipLoops
 pub mod CallChains

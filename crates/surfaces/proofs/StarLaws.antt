@@ -2,6 +2,8 @@
 --
 --   Missing n s i t               t holds every shot of s but i
 --   star-pieces                   what is in a star: the triples that hold all of the circuit but one shot of a side
+--   star-words                    a star is a set of triples
+--   cone-at, cone-words           those of a set that hold shot k
 --   Rest n s c                    c has as many shots as a piece of s lacks, none of them in s
 --   Joined n s i c r              the triple of rank r is s without i, joined with c
 --   joined-at, joined-one         there is one such triple; there is only one
@@ -21,20 +23,20 @@ use borrow.Author.Tests.{lt-ltb}
 use Rattle.algebra.specs.Answer.{Reflects}
 use Rattle.algebra.specs.Loops.{any, picks}
 use Rattle.algebra.specs.Sets.{isOn, On, allOn, union, dropped, Within, maskOf, bit}
-use Rattle.algebra.specs.Words.{clearBit, member}
+use Rattle.algebra.specs.Words.{Words, clearBit, member}
 use Rattle.algebra.proofs.AnswerLaws.{reflects-yes, reflects-true, reflects-iff, reflects-not, reflects-and, reflects-ltb}
-use Rattle.algebra.proofs.LoopLaws.{and-parts, every-same, reflects-any}
+use Rattle.algebra.proofs.LoopLaws.{and-parts, every-same, reflects-any, reflects-test}
 use Rattle.algebra.proofs.SetTests.{reflects-on, reflects-all-on, isOn-picks, picks-within, on-low, union-within, on-dropped, dropped-within, mask-on}
 use Rattle.algebra.proofs.BitLaws.{bit-mask}
 use Rattle.algebra.proofs.BitOps.{bit-clear}
-use Rattle.algebra.proofs.WordLaws.{sift-all}
+use Rattle.algebra.proofs.WordLaws.{sift-words, sift-all, both-member, both-words}
 use Rattle.shots.specs.Sizes.{shotsMost}
 use Rattle.triples.specs.Sizes.{wordCount}
 use Rattle.triples.specs.Ranks.{tripleCount, tripleAt, rankOf}
-use Rattle.triples.specs.Sets.{maskOn}
+use Rattle.triples.specs.Sets.{maskOn, holdersOf}
 use Rattle.triples.proofs.RankLaws.{triple-at-within, rank-of-triple, triple-of-rank}
-use Rattle.lists.proofs.ByWords.{room}
-use Rattle.surfaces.specs.Stars.{starOf}
+use Rattle.lists.proofs.ByWords.{room, on-ranked}
+use Rattle.surfaces.specs.Stars.{starOf, coneOf}
 use Rattle.algebra.proofs.UnionLaws.{set-known, on-either, on-without, union-apart, union-meets, dropped-length}
 
 -- ---- stars
@@ -42,7 +44,7 @@ use Rattle.algebra.proofs.UnionLaws.{set-known, on-either, on-without, union-ap
 abbrev pub Missing : ℕ → List ℕ → ℕ → List ℕ → Type 0
 Missing n s i t = ((k : ℕ) → On (dropped n i s) k → On t k) × (On t i → ⊥)
 
-module _ (n x : ℕ) (s : List ℕ) (bits : (i : ℕ) → bit x i ≡ isOn i s) where
+module _ (n x : ℕ) (s : List ℕ) (bits : (i : ℕ) → i < n → bit x i ≡ isOn i s) where
   mask-dropped : (i : ℕ) (t : List ℕ) → maskOn n (clearBit x i) t ≡ allOn (dropped n i s) t
   unfolding maskOn
   mask-dropped i t =
@@ -51,11 +53,11 @@ module _ (n x : ℕ) (s : List ℕ) (bits : (i : ℕ) → bit x i ≡ isOn i s) 
     where
       left : (j : ℕ) → j < n → bit (clearBit x i) j ≡ bit (maskOf (dropped n i s)) j
       left j l =
-          bit-clear x i j ∙ ap (λ (b : Bool). b && not (eqb j i)) (bits j)
+          bit-clear x i j ∙ ap (λ (b : Bool). b && not (eqb j i)) (bits j l)
           ∙ sym (bit-mask j n (dropped n i s) (dropped-within n i s) ∙ on-dropped n i s j ∙ ap (λ (b : Bool). b && (isOn j s && not (eqb j i))) (lt-ltb j n l))
 
   -- a is the mask of a side
-  pub star-pieces : (a : ℕ) (side : List ℕ) → Within 0 side n → ((i : ℕ) → bit a i ≡ isOn i side) → n ≤ shotsMost → (r : ℕ)
+  pub star-pieces : (a : ℕ) (side : List ℕ) → Within 0 side n → ((i : ℕ) → i < n → bit a i ≡ isOn i side) → n ≤ shotsMost → (r : ℕ)
       → Reflects ((r < tripleCount n) × ((i : ℕ) × On side i × Missing n s i (tripleAt n r))) (member (starOf n a x) r)
   unfolding starOf
   star-pieces a side v e few r =
@@ -64,7 +66,7 @@ module _ (n x : ℕ) (s : List ℕ) (bits : (i : ℕ) → bit x i ≡ isOn i s) 
       (reflects-and (reflects-ltb r (tripleCount n))
       (reflects-iff (λ q. (q .0, q .2 .0, q .2 .1), λ q. (q .0, on-low side 0 n (q .0) v (q .1) .1, (q .1, q .2)))
       (reflects-any (λ i. On side i × Missing n s i (tripleAt n r)) (lacks r) n
-      (λ i l. reflects-and (subst (Reflects (On side i)) (sym (e i)) (reflects-on i side))
+      (λ i l. reflects-and (subst (Reflects (On side i)) (sym (e i l)) (reflects-on i side))
       (reflects-and (subst (Reflects ((k : ℕ) → On (dropped n i s) k → On (tripleAt n r) k)) (sym (mask-dropped i (tripleAt n r))) (reflects-all-on (dropped n i s) (tripleAt n r)))
       (reflects-not (reflects-on i (tripleAt n r))))))))
     where
@@ -76,6 +78,23 @@ module _ (n x : ℕ) (s : List ℕ) (bits : (i : ℕ) → bit x i ≡ isOn i s) 
 
       test : ℕ → Bool
       test q = ltb q (tripleCount n) && among q
+
+pub star-words : (n a x : ℕ) → Words wordCount (starOf n a x)
+unfolding starOf
+star-words n a x = sift-words wordCount _
+
+-- those of a set that hold k
+module _ (n : ℕ) (t : List ℕ) (words : Words wordCount t) (k : ℕ) where
+  pub cone-at : n ≤ shotsMost → (r : ℕ) → Reflects ((member t r ≡ true) × On (tripleAt n r) k) (member (coneOf n k t) r)
+  unfolding coneOf holdersOf
+  cone-at few r =
+      subst (Reflects ((member t r ≡ true) × On (tripleAt n r) k)) (sym (both-member wordCount t (holdersOf n k) words r))
+      (reflects-and (reflects-test (member t r))
+      (subst (Reflects (On (tripleAt n r) k)) (sym (sift-all wordCount (λ q. isOn k (tripleAt n q)) (λ q o. omega (arith, room n few, on-ranked n q k o)) r)) (reflects-on k (tripleAt n r))))
+
+  pub cone-words : Words wordCount (coneOf n k t)
+  unfolding coneOf
+  cone-words = both-words wordCount t (holdersOf n k) words
 
 -- ---- pieces, joined with what completes them
 

@@ -24,11 +24,10 @@ use Rattle.algebra.proofs.WordLaws.{words-same, sift-words, member-sift, sift-a
 use Rattle.shots.specs.Sizes.{shotsMost}
 use Rattle.triples.specs.Sizes.{wordCount}
 use Rattle.triples.specs.Ranks.{tripleCount, tripleAt}
-use Rattle.triples.specs.Sets.{holdersOf}
 use Rattle.lists.proofs.ByWords.{room, on-ranked}
 use Rattle.surfaces.specs.Flips.{listed, completions, completes, someLink, mixedLinks, supports, joins, exchanged}
 use Rattle.surfaces.specs.Stars.{starOf, coneOf, linkedAt, linkedOf, supportedBy, turnedBy}
-use Rattle.surfaces.proofs.StarLaws.{star-pieces, Rest, Joined, joined-one, joined-on, joined-at, joined-missing, joined-from, rest-of}
+use Rattle.surfaces.proofs.StarLaws.{star-pieces, star-words, cone-at, cone-words, Rest, Joined, joined-one, joined-on, joined-at, joined-missing, joined-from, rest-of}
 
 -- ---- lists
 
@@ -151,30 +150,17 @@ module _ (n x : ℕ) (s w : List ℕ) (v : Over n x s w) where
 
     -- ---- the star of the side
 
-    star-words : Words wordCount (starOf n y x)
-    unfolding starOf
-    star-words = sift-words wordCount _
-
     star-in : (i : ℕ) → On a i → (c : List ℕ) → Rest n s c → (r : ℕ) → Joined n s i c r → member (starOf n y x) r ≡ true
     star-in i o c h r j =
-        reflects-true (star-pieces n x s (v .bits) y a (S .within) (S .bits) (v .few) r) (j .0, (i, o, joined-missing n s (v .within) i (S .inside i o) (v .least) (v .most) c r h j))
+        reflects-true (star-pieces n x s (λ i l. v .bits i) y a (S .within) (λ i l. S .bits i) (v .few) r) (j .0, (i, o, joined-missing n s (v .within) i (S .inside i o) (v .least) (v .most) c r h j))
 
     star-out : (r : ℕ) → member (starOf n y x) r ≡ true → (i : ℕ) × On a i × ((c : List ℕ) × Rest n s c × Joined n s i c r)
     star-out r m =
-        let q = reflects-yes (star-pieces n x s (v .bits) y a (S .within) (S .bits) (v .few) r) m in
+        let q = reflects-yes (star-pieces n x s (λ i l. v .bits i) y a (S .within) (λ i l. S .bits i) (v .few) r) m in
         (q .1 .0, q .1 .1, joined-from n s (v .within) (q .1 .0) (S .inside (q .1 .0) (q .1 .1)) (v .least) (v .most) r (q .0) (q .1 .2))
 
-    -- those of the star that hold k
-    cone-at : (k r : ℕ) → Reflects ((member (starOf n y x) r ≡ true) × On (tripleAt n r) k) (member (coneOf n k (starOf n y x)) r)
-    unfolding coneOf holdersOf
-    cone-at k r =
-        subst (Reflects ((member (starOf n y x) r ≡ true) × On (tripleAt n r) k)) (sym (both-member wordCount (starOf n y x) (holdersOf n k) star-words r))
-        (reflects-and (reflects-test (member (starOf n y x) r))
-        (subst (Reflects (On (tripleAt n r) k)) (sym (sift-all wordCount (λ q. isOn k (tripleAt n q)) (λ q o. omega (arith, room n (v .few), on-ranked n q k o)) r)) (reflects-on k (tripleAt n r))))
-
-    cone-words : (k : ℕ) → Words wordCount (coneOf n k (starOf n y x))
-    unfolding coneOf
-    cone-words k = both-words wordCount (starOf n y x) (holdersOf n k) star-words
+    star-cone : (k r : ℕ) → Reflects ((member (starOf n y x) r ≡ true) × On (tripleAt n r) k) (member (coneOf n k (starOf n y x)) r)
+    star-cone k r = cone-at n (starOf n y x) (star-words n y x) k (v .few) r
 
     -- k is outside the circuit, and its cone is in the list, all of it and not empty
     abbrev Link : ℕ → Type 0
@@ -187,10 +173,10 @@ module _ (n x : ℕ) (s w : List ℕ) (v : Over n x s w) where
     link-at k =
         reflects-and (reflects-not (subst (Reflects (On s k)) (sym (v .bits k)) (reflects-on k s)))
         (reflects-and
-        (reflects-iff (λ q. let p = reflects-yes (cone-at k (q .0)) (q .1) in (q .0, p .0, p .1, q .2), λ q. (q .0, reflects-true (cone-at k (q .0)) (q .1, q .2), q .3))
-        (meets-at wordCount (coneOf n k (starOf n y x)) w (cone-words k)))
-        (reflects-iff (λ h r m o. h r (reflects-true (cone-at k r) (m, o)), λ h r m. let p = reflects-yes (cone-at k r) m in h r (p .0) (p .1))
-        (inside-at wordCount (coneOf n k (starOf n y x)) w (cone-words k))))
+        (reflects-iff (λ q. let p = reflects-yes (star-cone k (q .0)) (q .1) in (q .0, p .0, p .1, q .2), λ q. (q .0, reflects-true (star-cone k (q .0)) (q .1, q .2), q .3))
+        (meets-at wordCount (coneOf n k (starOf n y x)) w (cone-words n (starOf n y x) (star-words n y x) k)))
+        (reflects-iff (λ h r m o. h r (reflects-true (star-cone k r) (m, o)), λ h r m. let p = reflects-yes (star-cone k r) m in h r (p .0) (p .1))
+        (inside-at wordCount (coneOf n k (starOf n y x)) w (cone-words n (starOf n y x) (star-words n y x) k))))
 
     linked-at : (r : ℕ) → Reflects ((k : ℕ) × (k < n) × (Link k × On (tripleAt n r) k)) (member (linkedOf n x (starOf n y x) w) r)
     unfolding linkedOf
@@ -260,14 +246,14 @@ module _ (n x : ℕ) (s w : List ℕ) (v : Over n x s w) where
         × (Inside ⊎ ((r : ℕ) → (member (starOf n y x) r ≡ true) × (member w r ≡ true) → member (linkedOf n x (starOf n y x) w) r ≡ true))) (supportedBy n x (starOf n y x) w)
     unfolding supportedBy
     supported-at =
-        reflects-and (meets-at wordCount (starOf n y x) w star-words)
-        (reflects-or (inside-at wordCount (starOf n y x) w star-words)
+        reflects-and (meets-at wordCount (starOf n y x) w (star-words n y x))
+        (reflects-or (inside-at wordCount (starOf n y x) w (star-words n y x))
         (reflects-iff (λ h r p. h r (reflects-true (both r) p), λ h r m. h r (reflects-yes (both r) m))
-        (inside-at wordCount (bothOf (starOf n y x) w) (linkedOf n x (starOf n y x) w) (both-words wordCount (starOf n y x) w star-words))))
+        (inside-at wordCount (bothOf (starOf n y x) w) (linkedOf n x (starOf n y x) w) (both-words wordCount (starOf n y x) w (star-words n y x)))))
       where
         both : (r : ℕ) → Reflects ((member (starOf n y x) r ≡ true) × (member w r ≡ true)) (member (bothOf (starOf n y x) w) r)
         both r =
-            subst (Reflects ((member (starOf n y x) r ≡ true) × (member w r ≡ true))) (sym (both-member wordCount (starOf n y x) w star-words r))
+            subst (Reflects ((member (starOf n y x) r ≡ true) × (member w r ≡ true))) (sym (both-member wordCount (starOf n y x) w (star-words n y x) r))
             (reflects-and (reflects-test (member (starOf n y x) r)) (reflects-test (member w r)))
 
     pub supported-by : supportedBy n x (starOf n y x) w ≡ supports n w (map (λ i. dropped n i s) a)
@@ -336,9 +322,9 @@ module _ (n x : ℕ) (s w : List ℕ) (v : Over n x s w) where
             into m =
                 let q = star-out T r m in
                 let z = joined-at n s (v .within) (some-link .0) (S .inside (some-link .0) (some-link .1)) (v .least) (v .most) (q .2 .0) (q .2 .1) in
-                joining q (z .0, z .1, reflects-yes (inside-at wordCount (starOf n y x) w (star-words S)) e (z .0) (star-in S (some-link .0) (some-link .1) (q .2 .0) (q .2 .1) (z .0) (z .1)))
+                joining q (z .0, z .1, reflects-yes (inside-at wordCount (starOf n y x) w (star-words n y x)) e (z .0) (star-in S (some-link .0) (some-link .1) (q .2 .0) (q .2 .1) (z .0) (z .1)))
         go false e =
-            both-member wordCount (starOf n y′ x) (linkedOf n x (starOf n y x) w) (star-words T) r
+            both-member wordCount (starOf n y′ x) (linkedOf n x (starOf n y x) w) (star-words n y′ x) r
             ∙ reflects-agree (reflects-iff (into, λ q. (star-joining q, linked q)) (reflects-and (reflects-test (member (starOf n y′ x) r)) (linked-at S r))) (joins-at S b r)
           where
             into : (member (starOf n y′ x) r ≡ true) × ((k : ℕ) × (k < n) × (Link S k × On (tripleAt n r) k)) → Joining S b r
@@ -349,7 +335,7 @@ module _ (n x : ℕ) (s w : List ℕ) (v : Over n x s w) where
             linked : Joining S b r → (k : ℕ) × (k < n) × (Link S k × On (tripleAt n r) k)
             linked q =
                 let h = q .1 .2 .2 in
-                ⊎-elim (λ f. absurd (reflects-no (inside-at wordCount (starOf n y x) w (star-words S)) e f))
+                ⊎-elim (λ f. absurd (reflects-no (inside-at wordCount (starOf n y x) w (star-words n y x)) e f))
                 (λ f. let g = f (q .1 .2 .0) (q .1 .2 .1) (h .0) (h .1) (h .2 .1) in
                 (g .0, on-low (h .0) 0 n (g .0) (h .1 .within) (g .1) .1, (g .2, rest-in T (q .1 .0) (q .1 .1) (h .0) (h .1) r (q .0, h .2 .0) (g .0) (g .1))))
                 (spread S some-link same-links)

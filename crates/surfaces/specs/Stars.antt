@@ -1,6 +1,7 @@
 -- How the code finds the pieces of a circuit with what they are joined with: by sets of triples.
 --
 --   starOf n a x          for a side a of a circuit, both as masks: the triples that hold all of the circuit x but one shot of that side
+--   IsStar n x t          t is the star of some side of the circuit x
 --   coneOf n k t          those of the set t that hold shot k
 --   linkedAt n x t w k    shot k is outside the circuit x, and its whole cone in t is in the list w, and is not empty
 --   linkedOf n x t w      the triples with such a shot
@@ -8,16 +9,17 @@
 --   turnedBy n x t u w    the list with the star t taken out, and what belongs to the same link in the star u put in
 --   foundBy n x t u w     the list w supports the pieces of one of the stars t and u
 --   flippedBy n x t u w   the list turned from t to u where t is supported, else from u to t where u is, else as it is
---   noTurn l x t u w      13: neither star is supported
---   turnAnswer l x t u w  that list; or 13, or 14 where it fails the test
+--   foundAnswer l f w     the list w that a flip found; or 13 where it found none, 14 where w fails the test
+--   turnAnswer l x t u w  so for the list turned between t and u
 --
 -- That this is the flip of specs/Flips: proofs/ByStars, proofs/CallChains.
+use mathlib.Core.Path.{_≡_}
 use mathlib.Core.Bool.{Bool, not, cond, _||_, _&&_}
 use mathlib.Core.List.{List, [], _∷_}
 use Prim.Native.Nat.{ℕ}
 use lib.Dec.{ltb}
 use lib.IntN.{ℤ}
-use Rattle.algebra.specs.Answer.{Answer, Rule, chain}
+use Rattle.algebra.specs.Answer.{Answer, chain}
 use Rattle.algebra.specs.Loops.{any}
 use Rattle.algebra.specs.Sets.{isOn, bit}
 use Rattle.algebra.specs.Words.{clearBit, sift, bothOf, eitherOf, lessOf, meetsOf, insideOf}
@@ -29,6 +31,9 @@ use Rattle.surfaces.specs.Calls.{badResult}
 
 unfoldable pub starOf : ℕ → ℕ → ℕ → List ℕ
 starOf n a x = sift wordCount (λ r. ltb r (tripleCount n) && any n (λ i. bit a i && (maskOn n (clearBit x i) (tripleAt n r) && not (isOn i (tripleAt n r)))))
+
+abbrev pub IsStar : ℕ → ℕ → List ℕ → Type 0
+IsStar n x t = (a : ℕ) × (t ≡ starOf n a x)
 
 unfoldable pub coneOf : ℕ → ℕ → List ℕ → List ℕ
 coneOf n k t = bothOf t (holdersOf n k)
@@ -53,8 +58,8 @@ foundBy n x t u w = supportedBy n x t w || supportedBy n x u w
 abbrev pub flippedBy : ℕ → ℕ → List ℕ → List ℕ → List ℕ → List ℕ
 flippedBy n x t u w = cond (supportedBy n x t w) (turnedBy n x t u w) (cond (supportedBy n x u w) (turnedBy n x u t w) w)
 
-abbrev pub noTurn : List ℤ → ℕ → List ℕ → List ℕ → List ℕ → Rule
-noTurn l x t u w = record { number = 13; broken = not (foundBy (countOf l) x t u w) }
+unfoldable pub foundAnswer : List ℤ → Bool → List ℕ → Answer (List ℕ)
+foundAnswer l f w = chain (record { number = 13; broken = not f } ∷ badResult l w ∷ []) w
 
-unfoldable pub turnAnswer : List ℤ → ℕ → List ℕ → List ℕ → List ℕ → Answer (List ℕ)
-turnAnswer l x t u w = chain (noTurn l x t u w ∷ badResult l (flippedBy (countOf l) x t u w) ∷ []) (flippedBy (countOf l) x t u w)
+abbrev pub turnAnswer : List ℤ → ℕ → List ℕ → List ℕ → List ℕ → Answer (List ℕ)
+turnAnswer l x t u w = foundAnswer l (foundBy (countOf l) x t u w) (flippedBy (countOf l) x t u w)

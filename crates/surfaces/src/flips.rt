@@ -1,7 +1,7 @@
 // The flip of a list along a circuit, by sets of triples, and the test of its result.
 ghost use mathlib.Core.Path.{_≡_};
 ghost use mathlib.Core.Bool.{cond};
-ghost use Prim.Native.Nat.{_*_, _≤_, _<_};
+ghost use Prim.Native.Nat.{_*_, _^_, _≤_, _<_};
 ghost use lib.ListN.{length};
 ghost use Rattle.algebra.specs.Words.{clearBit};
 ghost use Rattle.shots.specs.Sizes.{shotsMost, maskBits};
@@ -10,14 +10,14 @@ ghost use Rattle.circuits.specs.Numbered.{circuitsOf};
 ghost use Rattle.triples.specs.Sizes.{wordCount};
 ghost use Rattle.triples.specs.Sets.{wordsOf, Holding};
 ghost use Rattle.lists.specs.Held.{heldRows, Prepared};
-ghost use Rattle.surfaces.specs.Stars.{starOf, linkedOf, linkedAt, supportedBy, turnedBy, foundBy, flippedBy, turnAnswer};
+ghost use Rattle.surfaces.specs.Stars.{starOf, IsStar, linkedOf, linkedAt, supportedBy, turnedBy, foundBy, flippedBy, turnAnswer};
 ghost use Rattle.surfaces.specs.Calls.{readSurface};
 use super::Surface;
 use lists::core;
 use triples::Triples;
 
 // A list that was flipped, or as it was where there is no flip.
-struct Turned {
+pub struct Turned {
     pub found: bool,
     pub list: Triples,
 }
@@ -81,7 +81,7 @@ fn linked(held: &[u64], n: usize, x: u16, star: Triples, list: Triples) -> Tripl
 
 // The star exchanged for the other one, where the list supports it.
 fn exchange(held: &[u64], n: usize, x: u16, star: Triples, other: Triples, list: Triples) -> Turned
-    requires { ⌜ (n ≤ shotsMost) × (wordCount * n ≤ length (now held)) × Holding n (now held) ⌝ }
+    requires { ⌜ (n ≤ shotsMost) × (wordCount * n ≤ length (now held)) × Holding n (now held) × (x < 2 ^ n) × IsStar n x (wordsOf star) ⌝ }
     ensures { λ r. ⌜ (r .found ≡ supportedBy n x (wordsOf star) (wordsOf list)) × (wordsOf (r .list) ≡ cond (supportedBy n x (wordsOf star) (wordsOf list)) (turnedBy n x (wordsOf star) (wordsOf other) (wordsOf list)) (wordsOf list)) ⌝ }
 {
     if !triples::sets::meets(star, list) {
@@ -92,6 +92,10 @@ fn exchange(held: &[u64], n: usize, x: u16, star: Triples, other: Triples, list:
             found: true,
             list: triples::sets::either(triples::sets::less(list, star), other),
         };
+    }
+    // Of four shots a triple of the star holds three, and no other shot: nothing is linked.
+    if u16::count_ones(x) == 4 {
+        return Turned { found: false, list };
     }
     let reach = linked(held, n, x, star, list);
     if !triples::sets::inside(triples::sets::both(star, list), reach) {
@@ -107,8 +111,15 @@ fn exchange(held: &[u64], n: usize, x: u16, star: Triples, other: Triples, list:
 }
 
 // The flip between two stars of the circuit x: the plus side's pieces where they are supported, else the minus side's.
-fn between(held: &[u64], n: usize, x: u16, plus: Triples, minus: Triples, list: Triples) -> Turned
-    requires { ⌜ (n ≤ shotsMost) × (wordCount * n ≤ length (now held)) × Holding n (now held) ⌝ }
+pub fn between(
+    held: &[u64],
+    n: usize,
+    x: u16,
+    plus: Triples,
+    minus: Triples,
+    list: Triples,
+) -> Turned
+    requires { ⌜ (n ≤ shotsMost) × (wordCount * n ≤ length (now held)) × Holding n (now held) × (x < 2 ^ n) × IsStar n x (wordsOf plus) × IsStar n x (wordsOf minus) ⌝ }
     ensures { λ r. ⌜ (r .found ≡ foundBy n x (wordsOf plus) (wordsOf minus) (wordsOf list)) × (wordsOf (r .list) ≡ flippedBy n x (wordsOf plus) (wordsOf minus) (wordsOf list)) ⌝ }
 {
     let first = exchange(held, n, x, plus, minus, list);
@@ -128,7 +139,7 @@ pub fn tested(
     minus: Triples,
     list: Triples,
 ) -> Surface
-    requires { ⌜ (countOf (now shots) ≤ shotsMost) × (count ≡ length (circuitsOf (now shots))) × (wordCount * heldRows ≤ length (now held)) × Prepared (now shots) (now held) ⌝ }
+    requires { ⌜ (countOf (now shots) ≤ shotsMost) × (count ≡ length (circuitsOf (now shots))) × (wordCount * heldRows ≤ length (now held)) × Prepared (now shots) (now held) × (x < 2 ^ countOf (now shots)) × IsStar (countOf (now shots)) x (wordsOf plus) × IsStar (countOf (now shots)) x (wordsOf minus) ⌝ }
     ensures { λ r. ⌜ readSurface r ≡ turnAnswer (now (shots .entry)) x (wordsOf plus) (wordsOf minus) (wordsOf list) ⌝ }
 {
     let turned = between(held, shots.len() / 2, x, plus, minus, list);

@@ -1,4 +1,6 @@
 pub mod ScanLaws
+pub mod IndexLaws
+pub mod SoundLaws
 pub mod StepsLaws
 pub mod Promises
 pub mod Theorem

@@ -1,8 +1,11 @@
 -- Steps over what a run has worked out: what `Going` says of them, and what holds again after those that are made.
 --
+--   circuit-on           k steps on, still along the same row, it is the circuit k further on
 --   turn-facts           how many of the b steps that are left are along the row of step s, with c circuits
 --   flip-keeps           a flip of the plane keeps the number of words
 --   is-made, not-made    what the test of an answer says
+--   landed               what a step leaves that writes nothing, from what is handed back
+--   known-counted        what a run knew it knows after such a step
 --   later w k r          the record w after k steps, with r rows
 --   SoFar l t w b k u r  of the b steps from the table t and the record w, k are made; they leave the table u, as long as t, and r rows
 --   far-none, far-on     so it is before the first step, and again after some more that are made
@@ -20,12 +23,12 @@ use mathlib.Core.Bool.{Bool, true, false, cond, _||_, true≢false, false≢true
 use mathlib.Core.List.{List}
 use Prim.Native.Nat.{ℕ, _+_, _-_, _*_, _/_, _%_, _≤_, _<_, min}
 use native.Mathlib.Omega.{arith}
-use native.Mathlib.Nat.{add-zero, le-antisymm, le-min, min-le-left, min-le-right, mul-le-mul, div-add-mod', div-eq-of-lt, div-lt-iff-lt-mul, mul-add-div-right, mod-lt}
+use native.Mathlib.Nat.{add-zero, le-antisymm, le-min, min-le-left, min-le-right, mul-le-mul, div-add-mod', div-eq-of-lt, div-lt-iff-lt-mul, mul-add-div-right, mul-add-mod-self-right, mod-lt, mod-eq-of-lt}
 use lib.ListN.{length}
 use lib.IntN.{ℤ}
 use Rattle.algebra.specs.Answer.{Answer, gives, refuses, refusal}
 use Rattle.algebra.specs.Words.{rowOf}
-use Rattle.reach.specs.Walks.{WalkRecord, Reply, started, made, done, Landing, leaves, rowsMost, capacityOf, impossible, afterFlip, tryOf, stepOf, goOn, stepsOf, runOf}
+use Rattle.reach.specs.Walks.{WalkRecord, Reply, started, made, done, Landing, leaves, rowsMost, capacityOf, impossible, counted, afterFlip, tryOf, stepOf, goOn, stepsOf, runOf}
 use Rattle.reach.specs.Walked.{Keeps}
 use Rattle.reach.proofs.ReachLaws.{tried-row}
 use Rattle.reach.proofs.StepLaws.{room-for, possible-facts, step-passed, run-passed, try-done, try-flip, after-refused, Goes, goes-possible}
@@ -41,16 +44,25 @@ use Rattle.lists.specs.Tests.{pastLast, someFlat, isEmpty, crossing, openEdge, 
 use Rattle.surfaces.specs.Calls.{flipOf}
 use Rattle.surfaces.proofs.Promises.{flip-words}
 use Rattle.surfaces.proofs.CallChains.{flip-unlisted}
-use Rattle.walks.specs.Calls.{plane, isMade}
+use Rattle.walks.specs.declared.AfterStep.{AfterStep}
+use Rattle.walks.specs.Calls.{plane, readWalk, readStepped, afterStep, isMade}
 use Rattle.walks.specs.Going.{Going}
+use Rattle.walks.specs.Known.{Known}
 
 -- ---- the number of a step
+
+-- step s + k by the row and the circuit of step s
+split : (s c k : ℕ) → s + k ≡ s / c * c + (s % c + k)
+split s c k = let e = div-add-mod' s c in omega arith
 
 -- so many steps on it is still the same row's
 row-on : (s c k : ℕ) → s % c + k < c → (s + k) / c ≡ s / c
 row-on s c k h =
-    ap (λ (n : ℕ). n / c) (let e = div-add-mod' s c in let q : s + k ≡ s / c * c + (s % c + k) = omega arith in q)
+    ap (λ (n : ℕ). n / c) (split s c k)
     ∙ mul-add-div-right (omega arith) (s / c) (s % c + k) ∙ rw (div-eq-of-lt h) (add-zero (s / c))
+
+pub circuit-on : (s c k : ℕ) → s % c + k < c → s % c + k ≡ (s + k) % c
+circuit-on s c k h = sym (ap (λ (n : ℕ). n % c) (split s c k) ∙ mul-add-mod-self-right (s / c) c (s % c + k) ∙ mod-eq-of-lt h)
 
 pub turn-facts : (s c b n : ℕ) → 0 < b → 0 < c → n ≡ min b (c - s % c) → (0 < n) × (n ≤ b) × (n ≤ c - s % c)
 turn-facts s c b n h k e =
@@ -87,6 +99,15 @@ is-made (refuses n) e = absurd (false≢true e)
 
 pub not-made : (a : Answer Reply) → isMade a ≡ false → a ≡ gives made → ⊥
 not-made a e q = true≢false (sym (ap isMade q) ∙ e)
+
+-- ---- a step that writes nothing
+
+module _ (r : AfterStep) (w : WalkRecord) (passed : (readStepped (r .answer) ≡ gives made) × (readWalk (r .walk) ≡ counted w)) where
+  pub landed : {t : List ℕ} → afterStep t r ≡ leaves t (counted w) (gives made)
+  landed {t} = λ k. leaves t (passed .1 k) (passed .0 k)
+
+  pub known-counted : {l : List ℤ} {t x : List ℕ} {b : Bool} → Known l t (w .rows) x b → Known l t (r .walk .rows) x b
+  known-counted {l} {t} {x} {b} known = subst (λ (n : ℕ). Known l t n x b) (ap (λ (v : WalkRecord). v .rows) (sym (passed .1))) known
 
 -- ---- the steps of a run so far
 

@@ -1,4 +1,5 @@
 pub mod Calls
+pub mod Known
 pub mod Going
 pub mod Lines
 pub mod Surfaces

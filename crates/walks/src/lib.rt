@@ -11,12 +11,14 @@ ghost use Rattle.walks.specs.Calls.{startLanding, stepLanding, afterStar
 use circuits::CIRCUITS_MOST;
 use triples::Triples;
 
+mod index;
 mod steps;
 mod table;
 
 pub use table::ROWS_MOST;
 
 // The walk record: how many rows of the table are in use, and the number of the next step.
+#[repr(C)]
 pub struct Walk {
     pub rows: usize,
     pub step: usize,
@@ -88,7 +90,19 @@ pub fn run_at(shots: &[i32], table: &mut [u64], walk: Walk, b: usize) -> AfterSt
             walk,
         };
     }
-    steps::several(shots, &plus, &minus, &held, count, table, walk, b)
+    let mut index = [0u16; index::INDEX];
+    index::fill(table, walk.rows, &mut index);
+    steps::several(
+        shots,
+        &plus,
+        &minus,
+        &held,
+        count,
+        table,
+        &mut index,
+        walk,
+        b,
+    )
 }
 
 // A step is a run of one.

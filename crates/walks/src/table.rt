@@ -2,14 +2,16 @@
 ghost use mathlib.Core.Path.{_≡_};
 ghost use Prim.Native.Nat.{_*_, _≤_, _<_, min};
 ghost use lib.ListN.{length};
-ghost use Rattle.reach.specs.Walks.{rowsMost, capacityOf, seenIn, storeOf};
+ghost use Rattle.reach.specs.Walks.{rowsMost, capacityOf, storeOf};
 ghost use Rattle.circuits.specs.Sizes.{circuitsMost};
 ghost use Rattle.triples.specs.Sizes.{wordCount};
 ghost use Rattle.triples.specs.Sets.{wordsOf};
 ghost use Rattle.walks.specs.Calls.{readWalk, afterStep, impossibleOf};
+ghost use Rattle.walks.specs.Known.{Indexed};
 use super::AfterStep;
 use super::Stepped;
 use super::Walk;
+use super::index;
 use triples::Triples;
 use triples::WORDS;
 use triples::rows;
@@ -50,29 +52,14 @@ pub fn impossible(capacity: usize, walk: Walk, count: usize) -> bool
     rows * count < walk.step
 }
 
-// Whether the list is one of the first rows: a result is most often near the last one, so from there down.
-fn seen(table: &[u64], rows: usize, list: Triples) -> bool
-    requires { ⌜ wordCount * rows ≤ length (now table) ⌝ }
-    ensures { λ r. ⌜ r ≡ seenIn wordCount (now (table .entry)) rows (wordsOf list) ⌝ }
-{
-    let mut p = rows;
-    while 0 < p {
-        p -= 1;
-        if rows::is_row(table, p, list) {
-            return true;
-        }
-    }
-    false
-}
-
-// A flip's result: a known one is passed over, a new one is written at the next row.
-pub fn place(table: &mut [u64], walk: Walk, list: Triples) -> AfterStep
-    requires { ⌜ (walk .rows ≤ capacityOf wordCount (length (now table))) × (walk .step < rowsMost * circuitsMost) ⌝ }
-    ensures { λ r. ⌜ afterStep (now (table .exit)) r ≡ storeOf wordCount (now (table .entry)) (readWalk walk) (wordsOf list) ⌝ }
+// A list that was found and is accepted: a known one is passed over, a new one is written at the next row.
+pub fn place(table: &mut [u64], index: &mut [u16], walk: Walk, list: Triples) -> AfterStep
+    requires { ⌜ (walk .rows ≤ capacityOf wordCount (length (now table))) × (walk .step < rowsMost * circuitsMost) × Indexed (now table) (walk .rows) (now index) ⌝ }
+    ensures { λ r. ⌜ (afterStep (now (table .exit)) r ≡ storeOf wordCount (now (table .entry)) (readWalk walk) (wordsOf list)) × Indexed (now (table .exit)) (r .walk .rows) (now (index .exit)) ⌝ }
 {
     let rows = walk.rows;
     let step = walk.step;
-    if seen(table, rows, list) {
+    if index::seen(table, index, rows, list) {
         return AfterStep {
             answer: Stepped::Made,
             walk: Walk {
@@ -89,6 +76,7 @@ pub fn place(table: &mut [u64], walk: Walk, list: Triples) -> AfterStep
     }
     let next = rows + 1;
     rows::put_row(table, rows, list);
+    index::note(index, rows, list);
     AfterStep {
         answer: Stepped::Made,
         walk: Walk {

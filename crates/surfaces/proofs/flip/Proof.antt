@@ -20,7 +20,7 @@ use Rattle.triples.specs.Sizes.{wordCount}
 use Rattle.triples.specs.Sets.{wordsOf}
 use Rattle.triples.proofs.SetLaws.{words-of}
 use Rattle.lists.specs.Held.{heldRows}
-use Rattle.surfaces.proofs.ByStars.{sum-low}
+use Rattle.surfaces.proofs.ByStars.{sum-below, sum-low}
 use Rattle.surfaces.proofs.CallChains.{flip-stops, flip-unlisted, flip-unnumbered, flip-turned}
 use Rattle.surfaces.proofs.flip.Statement.{statement}
 use Rattle.surfaces.proofs.flip.Tie as tie
@@ -120,9 +120,17 @@ star-requires-2 c κs =
 
 tested-requires : tie.Need-tested-requires
 tested-requires c κs =
-    let d = c .before .before .before .before .before in
-    let n = listed d in
-    (few n, counted n, room d, done n .prepare .ensures .2)
+    let p = c .before .before in
+    let d = p .before .before .before in
+    let n = listed d in (
+      few n,
+      counted n,
+      room d,
+      done n .prepare .ensures .2,
+      sum-below (l n) (few n) (z n) (low d) _ _ (done n .prepare .ensures .1 (z n) (low d)),
+      (_, p .star .ensures),
+      (_, c .star2 .ensures),
+    )
 
 words : (s : tie.Start) → Words wordCount (wordsOf (s .args .list))
 words s = words-of (s .args .list) (omega arith) (omega arith)

@@ -1,5 +1,5 @@
 -- `walks::run_at` meets its contract: the run's first rules refuse, or the steps are made over what is worked out.
-use mathlib.Core.Path.{_≡_, sym, _∙_, ap, subst}
+use mathlib.Core.Path.{_≡_, refl, sym, _∙_, ap, subst}
 use mathlib.Core.Bool.{Bool, true}
 use mathlib.Core.List.{List}
 use Prim.Native.Nat.{ℕ, _/_}
@@ -9,7 +9,7 @@ use lib.ListN.{length}
 use lib.IntN.{ℤ}
 use borrow.Author.Needs.{needs}
 use Rattle.algebra.specs.Answer.{refuses}
-use Rattle.reach.specs.Walks.{WalkRecord, rowsMost, leaves, capacityOf, impossible, runOf, stepsOf}
+use Rattle.reach.specs.Walks.{WalkRecord, rowsMost, Landing, leaves, capacityOf, impossible, runOf, stepsOf}
 use Rattle.reach.proofs.StepLaws.{walk-refused, walk-impossible}
 use Rattle.shots.specs.Tests.{refusalOf}
 use Rattle.shots.proofs.Patch.{patch-few}
@@ -19,7 +19,7 @@ use Rattle.circuits.proofs.Bounds.{circuits-most}
 use Rattle.triples.specs.Sizes.{wordCount}
 use Rattle.walks.specs.Calls.{plane, readWalk}
 use Rattle.walks.specs.Going.{Going}
-use Rattle.walks.proofs.StepsLaws.{run-steps}
+use Rattle.walks.proofs.StepsLaws.{going-fits, run-steps}
 use Rattle.walks.proofs.run_at.Statement.{statement}
 use Rattle.walks.proofs.run_at.Tie as tie
 
@@ -83,11 +83,26 @@ going c =
     let p = c .before .before in
     record { patch = patch p; ready = prepared p .prepare .ensures .1; circuits = prepared p .prepare .ensures .0; possible = tested (c .before) (c .if2 .left) }
 
+steps-run : (c : tie.Else2) (b : ℕ) {x : Landing} → let p = c .before .before in x ≡ stepsOf (plane (l p)) b (t p) (w p) → x ≡ runOf (plane (l p)) (t p) (w p) b
+steps-run c b is = is ∙ run-steps (going c) b
+
+-- the index is empty, and there is room for the rows
+fill-requires : tie.Need-fill-requires
+fill-requires c κs = let h = going-fits (going (c .before .before)) in (omega arith, refl)
+
+-- it is filled
+module _ (c : tie.After-index3) where
+  abbrev filled : tie.After-fill
+  filled = c .before .before .before .before .before .before
+
+  abbrev passes : tie.Else2
+  passes = filled .before .before .before
+
 several-requires : tie.Need-several-requires
-several-requires c κs = going (c .before .before .before .before)
+several-requires c κs = (going (passes c), filled c .fill .ensures)
 
 returns-3 : tie.Need-returns-3
-returns-3 c = c .before .before .several .ensures ∙ run-steps (going (c .before .before .before .before .before .before .before)) _
+returns-3 c = let s = c .before .before .before in steps-run (passes (s .before)) _ (s .several .ensures)
 
 pub run-at-spec : {M : Type 1} → statement M
 run-at-spec =
@@ -102,6 +117,9 @@ run-at-spec =
     (λ c κs. search needs)
     impossible-requires
     returns-2
+    (λ c. search needs)
+    fill-requires
+    (λ c. search needs)
     (λ c. search needs)
     (λ c. search needs)
     (λ c. search needs)

@@ -12,6 +12,7 @@ use Rattle.triples.specs.Sets.{wordsOf}
 use Rattle.triples.proofs.SetLaws.{words-of}
 use Rattle.surfaces.specs.Stars.{linkedOf, supportedBy, turnedBy}
 use Rattle.surfaces.proofs.FlipLoops.{less-reached}
+use Rattle.surfaces.proofs.FourLaws.{four-unsupported}
 use Rattle.surfaces.proofs.flips.exchange.Statement.{statement}
 use Rattle.surfaces.proofs.flips.exchange.Tie as tie
 
@@ -65,32 +66,40 @@ returns-2 c =
 
 returns-3 : tie.Need-returns-3
 returns-3 c =
+    let i = c .before .before in
+    let s = i .before .before .before .before in
+    let a = s .args in
+    no (a .n) (a .x) (wordsOf (a .star)) (wordsOf (a .other)) (wordsOf (a .list))
+    (four-unsupported (a .n) (a .x) (s .pre .0) (s .pre .3) (c .if3 .taken) (wordsOf (a .star)) (wordsOf (a .list)) (s .pre .4) (sym (i .inside .ensures) ∙ c .before .if2 .left))
+
+returns-4 : tie.Need-returns-4
+returns-4 c =
     let o = c .before in
     let l = o .before .before in
-    let i = l .before .before in
+    let i = l .before .before .before in
     let m = i .before .before in
     let a = m .before .before .args in
     beyond (a .n) (a .x) (wordsOf (a .star)) (wordsOf (a .other)) (wordsOf (a .list)) (sym (m .meets .ensures) ∙ not-false (m .meets .result) (i .before .if1 .left))
-    (sym (i .inside .ensures) ∙ l .before .if2 .left) (l .linked .ensures)
-    (ap (λ (y : List ℕ). insideOf y (wordsOf (l .linked .result))) (sym (o .before .both .ensures)) ∙ sym (o .inside2 .ensures) ∙ not-true (o .inside2 .result) (c .if3 .taken))
+    (sym (i .inside .ensures) ∙ l .before .before .if2 .left) (l .linked .ensures)
+    (ap (λ (y : List ℕ). insideOf y (wordsOf (l .linked .result))) (sym (o .before .both .ensures)) ∙ sym (o .inside2 .ensures) ∙ not-true (o .inside2 .result) (c .if4 .taken))
 
 star-words : (s : tie.Start) → Words wordCount (wordsOf (s .args .star))
 star-words s = words-of (s .args .star) (omega arith) (omega arith)
 
-returns-4 : tie.Need-returns-4
-returns-4 c =
+returns-5 : tie.Need-returns-5
+returns-5 c =
     let b = c .before in
     let d = b .before in
     let e = d .before in
     let o = e .before .before in
     let l = o .before .before in
-    let i = l .before .before in
+    let i = l .before .before .before in
     let m = i .before .before in
     let s = m .before .before in
     let a = s .args in
     part (a .n) (a .x) (wordsOf (a .star)) (wordsOf (a .other)) (wordsOf (a .list)) (sym (m .meets .ensures) ∙ not-false (m .meets .result) (i .before .if1 .left))
-    (sym (i .inside .ensures) ∙ l .before .if2 .left) (l .linked .ensures) (star-words s)
-    (ap (λ (y : List ℕ). insideOf y (wordsOf (l .linked .result))) (sym (o .before .both .ensures)) ∙ sym (o .inside2 .ensures) ∙ not-false (o .inside2 .result) (e .before .if3 .left))
+    (sym (i .inside .ensures) ∙ l .before .before .if2 .left) (l .linked .ensures) (star-words s)
+    (ap (λ (y : List ℕ). insideOf y (wordsOf (l .linked .result))) (sym (o .before .both .ensures)) ∙ sym (o .inside2 .ensures) ∙ not-false (o .inside2 .result) (e .before .if4 .left))
     (d .less2 .ensures ∙ ap (lessOf (wordsOf (a .list))) (e .both2 .ensures)) (c .either2 .ensures ∙ ap (eitherOf (wordsOf (d .less2 .result))) (b .both3 .ensures))
 
 pub exchange-spec : {M : Type 1} → statement M
@@ -103,12 +112,13 @@ exchange-spec =
     (λ c κs. search needs)
     (λ c κs. search needs)
     returns-2
-    (λ c κs. search needs)
-    (λ c κs. search needs)
-    (λ c κs. search needs)
     returns-3
     (λ c κs. search needs)
     (λ c κs. search needs)
     (λ c κs. search needs)
+    returns-4
     (λ c κs. search needs)
-    returns-4)
+    (λ c κs. search needs)
+    (λ c κs. search needs)
+    (λ c κs. search needs)
+    returns-5)

@@ -2,33 +2,39 @@
 use mathlib.Core.Path.{_≡_, sym, _∙_}
 use mathlib.Core.Bool.{Bool}
 use mathlib.Core.List.{List}
-use Prim.Native.Nat.{ℕ, _+_, _-_, _*_, _≤_}
+use Prim.Native.Nat.{ℕ, _+_, _-_, _*_, _%_, _<_, _≤_}
 use native.Mathlib.Omega.{arith}
 use lib.ListN.{length}
 use lib.IntN.{ℤ}
 use borrow.Author.Needs.{needs}
 use borrow.Author.Tests.{not-true, not-false}
 use Rattle.reach.specs.Walks.{WalkRecord, Landing, rowsMost, stepsOf}
+use Rattle.reach.proofs.ReachLaws.{tried-circuit}
 use Rattle.reach.proofs.RunLaws.{steps-one}
 use Rattle.circuits.specs.Sizes.{circuitsMost}
 use Rattle.walks.specs.Calls.{plane, readWalk, afterStep, isMade}
-use Rattle.walks.proofs.StepsLaws.{is-made, not-made, later, SoFar, far-none, far-on, far-stop, far-all, going-below, going-few, going-small, going-on, row-stays}
+use Rattle.walks.specs.Known.{Known}
+use Rattle.walks.proofs.StepsLaws.{circuit-on, is-made, not-made, later, SoFar, far-none, far-on, far-stop, far-all, going-below, going-few, going-small, going-on, row-stays}
 use Rattle.walks.proofs.steps.along.Statement.{statement}
 use Rattle.walks.proofs.steps.along.Tie as tie
 
 abbrev Inv-loop : tie.InvT-loop
-Inv-loop shots plus minus held count table₀ walk b row rows₀ k₀ table rows k = SoFar shots table₀ (readWalk walk) b k table rows
+Inv-loop shots plus minus held count table₀ index₀ walk sure b row first rows₀ k₀ table index rows k =
+    SoFar shots table₀ (readWalk walk) b k table rows × Known shots table rows index sure
 
 abbrev μ-loop : tie.MeasureT-loop
-μ-loop shots plus minus held count table₀ walk b row rows₀ k₀ table rows k = b - k
+μ-loop shots plus minus held count table₀ index₀ walk sure b row first rows₀ k₀ table index rows k = b - k
+
+rem-first : tie.Need-rem-first Inv-loop μ-loop
+rem-first c = let s = c .before .before .before .before .before .before in tried-circuit (s .args .walk .rows) (s .args .walk .step) (s .args .count) (s .pre .1)
 
 loop-holds : tie.Need-loop-holds Inv-loop μ-loop
-loop-holds c = far-none _ _ _ _
+loop-holds c = (far-none _ _ _ _, c .before .before .before .before .before .before .pre .5)
 
 -- between the steps
 module _ (c : tie.At-loop Inv-loop μ-loop) where
   abbrev start : tie.Start Inv-loop μ-loop
-  start = c .before .before .before .before .before
+  start = c .before .before .before .before .before .before .before
 
   abbrev l : List ℤ
   l = start .args .shots .now
@@ -46,24 +52,35 @@ module _ (c : tie.At-loop Inv-loop μ-loop) where
   few : start .args .b ≤ circuitsMost
   few = let h = going-few (start .pre .0) in let f = start .pre .2 in omega arith
 
-add-t16 : tie.Need-add-t16 Inv-loop μ-loop
-add-t16 c = let a = c .before .before in let h = small a in let f = few a in let m = a .loop .inv .most in record { fits = omega arith }
+add-one : tie.Need-add-one Inv-loop μ-loop
+add-one c = let a = c .before .before in let h = small a in let f = few a in let m = a .loop .inv .0 .most in record { fits = omega arith }
+
+-- a round
+module _ (c : tie.In-loop Inv-loop μ-loop) where
+  abbrev asked : tie.Start Inv-loop μ-loop
+  asked = start (c .before)
+
+  in-row : asked .args .walk .step % asked .args .count + c .before .loop .k < asked .args .count
+  in-row = let h = c .loop-test .taken in let f = asked .pre .2 in omega arith
+
+add-one-2 : tie.Need-add-one-2 Inv-loop μ-loop
+add-one-2 c = let k = c .before .before .before in let h = in-row k in let f = going-few (asked k .pre .0) in record { fits = omega arith }
 
 one-requires : tie.Need-one-requires Inv-loop μ-loop
 one-requires c κs =
-    let k = c .before .before in
-    let far = k .before .loop .inv in
-    let p = start (k .before) .pre in
-    let r = row-stays (p .0) far (p .1) (let h = k .loop-test .taken in let f = p .2 in omega arith) in
-    (going-on (p .0) far, r .0, p .3 ∙ sym (r .1), p .4)
+    let k = c .before .before .before in
+    let inv = k .before .loop .inv in
+    let p = asked k .pre in
+    let r = row-stays (p .0) (inv .0) (p .1) (in-row k) in
+    (going-on (p .0) (inv .0), r .0, p .3 ∙ sym (r .1), p .4, circuit-on _ _ _ (in-row k), inv .1)
 
 -- after a step
 module _ (c : tie.After-made Inv-loop μ-loop) where
   abbrev called : tie.After-one Inv-loop μ-loop
-  called = c .before .before .before
+  called = c .before .before .before .before .before
 
   abbrev round : tie.In-loop Inv-loop μ-loop
-  round = called .before .before .before
+  round = called .before .before .before .before
 
   abbrev here : tie.At-loop Inv-loop μ-loop
   here = round .before
@@ -72,7 +89,10 @@ module _ (c : tie.After-made Inv-loop μ-loop) where
   x = afterStep (called .one .last .1 .1 .1 .1 .1 .0) (called .one .result)
 
   next : x ≡ stepsOf (plane (l here)) 1 (t here) (w here)
-  next = called .one .ensures ∙ sym (steps-one (plane (l here)) (t here) (w here))
+  next = called .one .ensures .0 ∙ sym (steps-one (plane (l here)) (t here) (w here))
+
+  knows : Known (l here) (x .table) (x .walk .rows) (called .one .last .1 .1 .1 .1 .1 .1 .0) (start here .args .sure)
+  knows = called .one .ensures .1
 
   answered : {v : Bool} → c .made .result ≡ v → isMade (x .answer) ≡ v
   answered e = sym (c .made .ensures) ∙ e
@@ -84,22 +104,28 @@ module _ (c : tie.After-made Inv-loop μ-loop) where
   more = let h = round .loop-test .taken in omega arith
 
 same-length : tie.Need-same-length Inv-loop μ-loop
-same-length c = let p = c .before in kept p ∙ here p .loop .inv .lasts
+same-length c = let p = c .before in kept p ∙ here p .loop .inv .0 .lasts
+
+same-length-2 : tie.Need-same-length-2 Inv-loop μ-loop
+same-length-2 c = let p = c .before in knows p .indexed .room ∙ sym (start (here p) .pre .5 .indexed .room)
 
 returns : tie.Need-returns Inv-loop μ-loop
-returns c = let p = c .before in far-stop (here p .loop .inv) 1 (more p) (x p) (next p) (not-made _ (answered p (not-true _ (c .if1 .taken))))
+returns c = let p = c .before in (far-stop (here p .loop .inv .0) 1 (more p) (x p) (next p) (not-made _ (answered p (not-true _ (c .if1 .taken)))), knows p)
 
 add-k : tie.Need-add-k Inv-loop μ-loop
 add-k c = let p = c .before in let h = more p in let f = few (here p) in record { fits = omega arith }
 
 loop-again : tie.Need-loop-again Inv-loop μ-loop
-loop-again c = let p = c .before in far-on (here p .loop .inv) 1 (more p) (x p) (next p) (is-made (x p .answer) (answered p (not-false _ (c .if1 .left)))) (kept p)
+loop-again c = let p = c .before in (far-on (here p .loop .inv .0) 1 (more p) (x p) (next p) (is-made (x p .answer) (answered p (not-false _ (c .if1 .left)))) (kept p), knows p)
 
-add-t21 : tie.Need-add-t21 Inv-loop μ-loop
-add-t21 c = let a = c .before .before in let h = small a in let f = few a in record { fits = omega arith }
+add-t26 : tie.Need-add-t26 Inv-loop μ-loop
+add-t26 c = let a = c .before .before in let h = small a in let f = few a in record { fits = omega arith }
+
+same-length-4 : tie.Need-same-length-4 Inv-loop μ-loop
+same-length-4 c = let a = c .before .before in a .loop .inv .1 .indexed .room ∙ sym (start a .pre .5 .indexed .room)
 
 returns-2 : tie.Need-returns-2 Inv-loop μ-loop
-returns-2 c = far-all (c .before .before .loop .inv) (c .before .loop-test .left)
+returns-2 c = let i = c .before .before .loop .inv in (far-all (i .0) (c .before .loop-test .left), i .1)
 
 pub along-spec : {M : Type 1} → statement M
 along-spec =
@@ -107,15 +133,19 @@ along-spec =
     (tie.spec
     Inv-loop
     μ-loop
+    rem-first
     loop-holds
-    add-t16
+    add-one
+    add-one-2
     one-requires
     (λ c κs. search needs)
     same-length
+    same-length-2
     returns
     add-k
     (λ c. search needs)
     loop-again
-    add-t21
+    add-t26
     (λ c. search needs)
+    same-length-4
     returns-2)

@@ -1,20 +1,25 @@
 -- `walks::steps::one` meets its contract: a step is what it makes of the flip of its row.
-use mathlib.Core.Path.{_≡_, sym, _∙_, ap}
+use mathlib.Core.Path.{_≡_, refl, sym, _∙_, ap}
+use mathlib.Core.Bool.{Bool, false}
 use mathlib.Core.List.{List}
-use Prim.Native.Nat.{ℕ, _*_, _%_, _<_}
+use Prim.Native.Nat.{ℕ, _*_, _<_}
 use native.Mathlib.Omega.{arith}
 use native.Mathlib.Nat.{mod-lt}
 use lib.IntN.{ℤ}
 use borrow.Author.Needs.{needs}
-use Rattle.algebra.specs.Answer.{Answer, gives, refuses}
-use Rattle.reach.specs.Walks.{WalkRecord, rowsMost, afterFlip, stepOf}
+use borrow.Author.Tests.{not-true, not-false}
+use Rattle.algebra.specs.Answer.{Answer}
+use Rattle.reach.specs.Walks.{WalkRecord, Landing, rowsMost, afterFlip, stepOf}
 use Rattle.reach.proofs.ReachLaws.{tried-circuit}
-use Rattle.reach.proofs.StepLaws.{after-none, after-refused}
+use Rattle.reach.proofs.StepLaws.{after-none}
+use Rattle.shots.proofs.Patch.{patch-few}
 use Rattle.circuits.specs.Sizes.{circuitsMost}
 use Rattle.triples.specs.Sets.{wordsOf}
-use Rattle.surfaces.specs.Calls.{readSurface, flipOf}
+use Rattle.surfaces.specs.Calls.{flipOf}
+use Rattle.surfaces.specs.Stars.{foundAnswer}
+use Rattle.surfaces.proofs.CallChains.{found-none}
 use Rattle.walks.specs.Calls.{plane, readWalk}
-use Rattle.walks.proofs.StepsLaws.{going-fits, going-small, step-along}
+use Rattle.walks.proofs.StepsLaws.{landed, known-counted, going-fits, going-small, step-along}
 use Rattle.walks.proofs.steps.one.Statement.{statement}
 use Rattle.walks.proofs.steps.one.Tie as tie
 
@@ -36,55 +41,67 @@ module _ (s : tie.Start) where
   small = let f = going-small (s .pre .0) in let h = s .pre .1 in omega arith
 
   -- the step, by what its flip answers
-  step-is : {x : Answer (List ℕ)} → x ≡ flipOf l (wordsOf (s .args .row)) (w .step % s .args .count) → afterFlip (plane l) t w x ≡ stepOf (plane l) t w
-  step-is e = ap (afterFlip (plane l) t w) e ∙ sym (step-along (s .pre .0) (wordsOf (s .args .row)) (s .pre .1) (s .pre .2))
+  step-is : {x : Answer (List ℕ)} → x ≡ flipOf l (wordsOf (s .args .row)) (s .args .z) → afterFlip (plane l) t w x ≡ stepOf (plane l) t w
+  step-is e =
+      ap (afterFlip (plane l) t w) (e ∙ ap (flipOf l (wordsOf (s .args .row))) (s .pre .4))
+      ∙ sym (step-along (s .pre .0) (wordsOf (s .args .row)) (s .pre .1) (s .pre .2))
 
-rem-flip : tie.Need-rem-flip
-rem-flip c = some (c .before .before .before .before .before)
-
-flip-requires : tie.Need-flip-requires
-flip-requires c κs =
+turn-requires : tie.Need-turn-requires
+turn-requires c κs =
     let s = c .before .before .before .before .before in
     let g = s .pre .0 in
-    (g .patch, g .ready, g .circuits, s .pre .3, mod-lt (s .args .walk .step) (some s))
+    let h = mod-lt (s .args .walk .step) (some s) in
+    let e = s .pre .4 in
+    (g .patch, g .ready, g .circuits, s .pre .3, omega arith)
 
-abbrev start : tie.After-flip → tie.Start
-start c = c .before .before .before .before .before .before
+-- the flip was looked for
+module _ (c : tie.After-struct-known) where
+  abbrev start : tie.Start
+  start = c .before .before .before .before .before .before .before
 
-place-requires : tie.Need-place-requires
-place-requires c κs = let s = start (c .before .before .before .before) in (going-fits (s .pre .0), small s)
+  abbrev found : Bool
+  found = c .before .turn .result .found
 
-add-t18 : tie.Need-add-t18
-add-t18 c = let h = small (start (c .before .before .before .before .before)) in record { fits = omega arith }
+  abbrev list : List ℕ
+  list = wordsOf (c .before .turn .result .list)
 
--- a list was given
-given : (c : tie.After-flipped) → let s = start (c .before .before) in afterFlip (plane (l s)) (t s) (w s) (gives (wordsOf (c .flipped .given .0 .0))) ≡ stepOf (plane (l s)) (t s) (w s)
-given c = step-is (start (c .before .before)) (sym (ap readSurface (c .flipped .given .1)) ∙ c .before .before .flip .ensures)
+  -- x is what a callee left
+  given : {b : Bool} → found ≡ b → {x : Landing} → x ≡ afterFlip (plane (l start)) (t start) (w start) (foundAnswer (l start) b list) → x ≡ stepOf (plane (l start)) (t start) (w start)
+  given e is = is ∙ step-is start (ap (λ (b : Bool). foundAnswer (l start) b list) (sym e) ∙ c .before .turn .ensures)
 
-returns-2 : tie.Need-returns-2
-returns-2 c = c .before .before .place .ensures ∙ given (c .before .before .before .before .before)
-
--- none was
-refused : (c : tie.After-flipped2) → let s = start (c .before .before) in afterFlip (plane (l s)) (t s) (w s) (refuses (c .flipped2 .given .0 .0)) ≡ stepOf (plane (l s)) (t s) (w s)
-refused c = step-is (start (c .before .before)) (sym (ap readSurface (c .flipped2 .given .1)) ∙ c .before .before .flip .ensures)
+passed-requires : tie.Need-passed-requires
+passed-requires c κs = small (start (c .before))
 
 returns : tie.Need-returns
-returns c = let k = c .before .before .before in sym (after-none (plane (l (start (k .before .before)))) _ _ (k .flipped2 .given .0 .0) (c .before .if1 .taken)) ∙ refused k
+returns c =
+    let d = c .before .before in
+    let s = start d in
+    let n = found-none (l s) false (list d) refl in (
+      given d (not-true _ (c .before .if1 .taken)) (landed (c .passed .result) (w s) (c .passed .ensures) ∙ sym (after-none (plane (l s)) (t s) (w s) 13 refl) ∙ ap (afterFlip (plane (l s)) (t s) (w s)) n),
+      known-counted (c .passed .result) (w s) (c .passed .ensures) (s .pre .5),
+    )
 
-returns-3 : tie.Need-returns-3
-returns-3 c = let k = c .before .before in sym (after-refused (plane (l (start (k .before .before)))) _ _ (k .flipped2 .given .0 .0) (c .if1 .left)) ∙ refused k
+settle-requires : tie.Need-settle-requires
+settle-requires c κs =
+    let s = start (c .before .before .before .before) in
+    let g = s .pre .0 in
+    let h = g .ready .held-room in
+    (patch-few _ (g .patch) .1, g .circuits, omega arith, g .ready .tests, going-fits g, small s, s .pre .5)
+
+returns-2 : tie.Need-returns-2
+returns-2 c =
+    let a = c .before .before .before .before in
+    let e = a .before .before .before .before in
+    (given (e .before) (not-false _ (e .if1 .left)) (a .settle .ensures .0), a .settle .ensures .1)
 
 pub one-spec : {M : Type 1} → statement M
 one-spec =
     tie.close
     (tie.spec
-    rem-flip
-    flip-requires
-    (λ c. search needs)
-    place-requires
-    (λ c. search needs)
-    add-t18
+    turn-requires
+    passed-requires
     returns
+    settle-requires
     (λ c. search needs)
-    returns-2
-    returns-3)
+    (λ c. search needs)
+    returns-2)

@@ -1,42 +1,48 @@
 -- `walks::steps::several` meets its contract: so many of the steps are made so far, row by row.
-use mathlib.Core.Path.{_≡_, sym, _∙_}
+use mathlib.Core.Path.{_≡_, sym, _∙_, ap}
+use mathlib.Core.Logic.{⊎-elim}
 use mathlib.Core.Bool.{Bool}
 use mathlib.Core.List.{List}
-use Prim.Native.Nat.{ℕ, _+_, _-_, _*_, _%_, _≤_, _<_}
+use Prim.Native.Nat.{ℕ, _+_, _-_, _*_, _/_, _%_, _≤_, _<_}
 use native.Mathlib.Omega.{arith}
 use native.Mathlib.Nat.{le-of-lt, mod-lt}
 use lib.ListN.{length}
 use lib.IntN.{ℤ}
 use borrow.Author.Needs.{needs}
-use borrow.Author.Tests.{not-true, not-false}
+use borrow.Author.Tests.{not-true, not-false, eqb-true}
 use Rattle.algebra.specs.Answer.{gives}
 use Rattle.algebra.proofs.AnswerLaws.{given-refused}
 use Rattle.reach.specs.Walks.{WalkRecord, made, Landing, rowsMost, stepOf, stepsOf}
-use Rattle.reach.proofs.ReachLaws.{tried-circuit}
+use Rattle.reach.proofs.ReachLaws.{tried-row, tried-circuit}
 use Rattle.reach.proofs.StepLaws.{done-made}
 use Rattle.reach.proofs.RunLaws.{steps-one}
 use Rattle.shots.proofs.Patch.{patch-few}
 use Rattle.circuits.specs.Sizes.{circuitsMost}
+use Rattle.triples.specs.Sets.{wordsOf}
+use Rattle.lists.specs.Tests.{listRefusalOf}
 use Rattle.walks.specs.Calls.{plane, readWalk, afterStep, isMade}
 use Rattle.walks.specs.Going.{Going}
+use Rattle.walks.specs.Known.{Known}
+use Rattle.walks.proofs.SoundLaws.{sound-only, known-none}
 use Rattle.walks.proofs.StepsLaws.{turn-facts, is-made, not-made, later, SoFar, far-none, far-on, far-stop, far-all}
 use Rattle.walks.proofs.StepsLaws.{going-below, going-small, going-room, going-on, step-ends, step-unlisted}
 use Rattle.walks.proofs.steps.several.Statement.{statement}
 use Rattle.walks.proofs.steps.several.Tie as tie
 
 abbrev Inv-loop : tie.InvT-loop
-Inv-loop shots plus minus held count table₀ walk b rows₀ k₀ table rows k = SoFar shots table₀ (readWalk walk) b k table rows
+Inv-loop shots plus minus held count table₀ index₀ walk b sure₀ rows₀ k₀ table index sure rows k =
+    SoFar shots table₀ (readWalk walk) b k table rows × Known shots table rows index sure
 
 abbrev μ-loop : tie.MeasureT-loop
-μ-loop shots plus minus held count table₀ walk b rows₀ k₀ table rows k = b - k
+μ-loop shots plus minus held count table₀ index₀ walk b sure₀ rows₀ k₀ table index sure rows k = b - k
 
 loop-holds : tie.Need-loop-holds Inv-loop μ-loop
-loop-holds c = far-none _ _ _ _
+loop-holds c = (far-none _ _ _ _, known-none (c .before .before .before .before .before .pre .1))
 
 -- between the rounds
 module _ (c : tie.At-loop Inv-loop μ-loop) where
   abbrev start : tie.Start Inv-loop μ-loop
-  start = c .before .before .before .before .before
+  start = c .before .before .before .before .before .before
 
   abbrev l : List ℤ
   l = start .args .shots .now
@@ -59,8 +65,14 @@ module _ (c : tie.At-loop Inv-loop μ-loop) where
   abbrev asked : Landing
   asked = stepsOf (plane l) b (start .args .table .now) (readWalk (start .args .walk))
 
+  knows : Known l t (w .rows) (c .loop .index) (c .loop .sure)
+  knows = c .loop .inv .1
+
+  same-index : length (c .loop .index) ≡ length (start .args .index .now)
+  same-index = knows .indexed .room ∙ sym (start .pre .1 .room)
+
   going : Going l (start .args .plus .now) (start .args .minus .now) (start .args .held .now) count t w
-  going = going-on (start .pre) (c .loop .inv)
+  going = going-on (start .pre .0) (c .loop .inv .0)
 
   small : w .rows * count ≤ rowsMost * circuitsMost
   small = going-small going
@@ -72,13 +84,16 @@ module _ (c : tie.At-loop Inv-loop μ-loop) where
 stops : (c : tie.In-loop Inv-loop μ-loop) {x : Landing} → let a = c .before in stepOf (plane (l a)) (t a) (w a) ≡ x → (x .answer ≡ gives made → ⊥) → x ≡ asked a
 stops c {x} e ne =
     let a = c .before in
-    far-stop (a .loop .inv) 1 (let h = c .loop-test .taken in omega arith) x (sym (steps-one (plane (l a)) (t a) (w a) ∙ e)) ne
+    far-stop (a .loop .inv .0) 1 (let h = c .loop-test .taken in omega arith) x (sym (steps-one (plane (l a)) (t a) (w a) ∙ e)) ne
 
 add-if1 : tie.Need-add-if1 Inv-loop μ-loop
 add-if1 c = let f = step-small (c .before .before) in record { fits = omega arith }
 
 mul-if1 : tie.Need-mul-if1 Inv-loop μ-loop
 mul-if1 c = let f = small (c .before .before) in record { fits = omega arith }
+
+same-length-2 : tie.Need-same-length-2 Inv-loop μ-loop
+same-length-2 c = same-index (c .before .before .before .before)
 
 returns : tie.Need-returns Inv-loop μ-loop
 returns c = let r = c .before .before .before in stops r (step-ends (going (r .before)) (c .if1 .taken)) (λ e. done-made e)
@@ -93,6 +108,9 @@ module _ (c : tie.Else1 Inv-loop μ-loop) where
 
   ahead : w here .step < w here .rows * count here
   ahead = let f = going-below (going here) in let n = c .if1 .left in omega arith
+
+  tried : w here .step / count here < w here .rows
+  tried = tried-row (w here .rows) (w here .step) (count here) ahead
 
   some : 0 < count here
   some = tried-circuit (w here .rows) (w here .step) (count here) ahead
@@ -109,9 +127,13 @@ ahead-of c = c .before .before .before
 
 refusal-requires : tie.Need-refusal-requires Inv-loop μ-loop
 refusal-requires c κs =
-    let g = going (here (ahead-of c)) in
+    let d = ahead-of c in
+    let g = going (here d) in
     let h = g .ready .held-room in
-    (patch-few _ (g .patch) .1, g .circuits, omega arith, g .ready .tests)
+    (patch-few _ (g .patch) .1, g .circuits, omega arith, g .ready .tests, λ e. ap (listRefusalOf (l (here d))) (c .row-at .ensures) ∙ knows (here d) .sound e _ (tried d))
+
+same-length-4 : tie.Need-same-length-4 Inv-loop μ-loop
+same-length-4 c = same-index (here (ahead-of (c .before .before)))
 
 returns-2 : tie.Need-returns-2 Inv-loop μ-loop
 returns-2 c =
@@ -120,15 +142,39 @@ returns-2 c =
     stops (round d) (step-unlisted (going (here d)) _ (ahead d) (r .row-at .ensures) (c .before .refusal .ensures) (c .if2 .taken)) (λ e. given-refused (sym e))
 
 rem-least : tie.Need-rem-least Inv-loop μ-loop
-rem-least c = some (ahead-of (c .before .before .before))
+rem-least c = some (ahead-of (c .before .before .before .before))
 
 sub-least-2 : tie.Need-sub-least-2 Inv-loop μ-loop
-sub-least-2 c = le-of-lt (mod-lt _ (some (ahead-of (c .before .before .before))))
+sub-least-2 c = le-of-lt (mod-lt _ (some (ahead-of (c .before .before .before .before))))
+
+-- it is accepted
+module _ (c : tie.Else2 Inv-loop μ-loop) where
+  abbrev good : tie.Else1 Inv-loop μ-loop
+  good = ahead-of (c .before .before)
+
+  accepted : listRefusalOf (l (here good)) (wordsOf (c .before .before .row-at .result)) ≡ 0
+  accepted = sym (c .before .refusal .ensures) ∙ c .if2 .left
+
+-- so are all rows, where they were or it is the only one
+surer : (c : tie.Joined3 Inv-loop μ-loop) → let a = here (good (c .before)) in Known (l a) (t a) (w a .rows) (a .loop .index) (c .if3 .sure)
+surer c =
+    let e = c .before in
+    let d = good e in
+    let a = here d in
+    record {
+      indexed = knows a .indexed;
+      sound = λ q. ⊎-elim (λ p. knows a .sound (p .0 .taken))
+          (λ p. sound-only (l a) (t a) (w a .rows) _ (eqb-true _ _ (sym (p .1) ∙ q)) (tried d) (ap (listRefusalOf (l a)) (sym (e .before .before .row-at .ensures)) ∙ accepted e))
+          (c .if3 .came);
+    }
 
 -- it is good for so many steps
 module _ (c : tie.After-least Inv-loop μ-loop) where
+  abbrev flag : tie.Joined3 Inv-loop μ-loop
+  flag = c .before .before
+
   abbrev row : tie.After-row-at Inv-loop μ-loop
-  row = c .before .before .before .before
+  row = flag .before .before .before
 
   abbrev then : tie.At-loop Inv-loop μ-loop
   then = here (ahead-of row)
@@ -143,20 +189,23 @@ module _ (c : tie.After-least Inv-loop μ-loop) where
 
 along-requires : tie.Need-along-requires Inv-loop μ-loop
 along-requires c κs =
-    let p = c .before in
+    let p = c .before .before in
     let r = row p in
-    (going (then p), ahead (ahead-of r), turns p .2, r .row-at .ensures, sym (p .before .before .before .refusal .ensures) ∙ p .before .before .if2 .left)
+    (going (then p), ahead (ahead-of r), turns p .2, r .row-at .ensures, accepted (flag p .before), surer (flag p))
 
 -- after the steps along it
 module _ (c : tie.After-made Inv-loop μ-loop) where
   abbrev called : tie.After-along Inv-loop μ-loop
-  called = c .before .before .before
+  called = c .before .before .before .before .before
 
   abbrev least : tie.After-least Inv-loop μ-loop
-  least = called .before .before
+  least = called .before .before .before
 
   abbrev x : Landing
   x = afterStep (called .along .last .1 .1 .1 .1 .1 .0) (called .along .result)
+
+  still : Known (l (then least)) (x .table) (x .walk .rows) (called .along .last .1 .1 .1 .1 .1 .1 .0) (flag least .if3 .sure)
+  still = called .along .ensures .1
 
   answered : {v : Bool} → c .made .result ≡ v → isMade (x .answer) ≡ v
   answered e = sym (c .made .ensures) ∙ e
@@ -165,15 +214,18 @@ module _ (c : tie.After-made Inv-loop μ-loop) where
   kept = called .along .kept .1 .1 .1 .1 .1 .0
 
   more : k (then least) + turn least ≤ b (then least)
-  more = let f = turns least .1 in let m = then least .loop .inv .most in omega arith
+  more = let f = turns least .1 in let m = then least .loop .inv .0 .most in omega arith
 
-same-length-3 : tie.Need-same-length-3 Inv-loop μ-loop
-same-length-3 c = let p = c .before in kept p ∙ then (least p) .loop .inv .lasts
+same-length-5 : tie.Need-same-length-5 Inv-loop μ-loop
+same-length-5 c = let p = c .before in kept p ∙ then (least p) .loop .inv .0 .lasts
+
+same-length-6 : tie.Need-same-length-6 Inv-loop μ-loop
+same-length-6 c = let p = c .before in still p .indexed .room ∙ sym (start (then (least p)) .pre .1 .room)
 
 returns-3 : tie.Need-returns-3 Inv-loop μ-loop
 returns-3 c =
     let p = c .before in
-    far-stop (then (least p) .loop .inv) (turn (least p)) (more p) (x p) (called p .along .ensures) (not-made _ (answered p (not-true _ (c .if3 .taken))))
+    far-stop (then (least p) .loop .inv .0) (turn (least p)) (more p) (x p) (called p .along .ensures .0) (not-made _ (answered p (not-true _ (c .if4 .taken))))
 
 add-k : tie.Need-add-k Inv-loop μ-loop
 add-k c = let p = c .before in let h = more p in let g = turns (least p) .0 in let f = start (then (least p)) .fits .b in record { fits = omega arith }
@@ -183,14 +235,19 @@ loop-less c = let p = c .before in let h = more p in let f = turns (least p) .0 
 
 loop-again : tie.Need-loop-again Inv-loop μ-loop
 loop-again c =
-    let p = c .before in
-    far-on (then (least p) .loop .inv) (turn (least p)) (more p) (x p) (called p .along .ensures) (is-made (x p .answer) (answered p (not-false _ (c .if3 .left)))) (kept p)
+    let p = c .before in (
+      far-on (then (least p) .loop .inv .0) (turn (least p)) (more p) (x p) (called p .along .ensures .0) (is-made (x p .answer) (answered p (not-false _ (c .if4 .left)))) (kept p),
+      still p,
+    )
 
-add-t29 : tie.Need-add-t29 Inv-loop μ-loop
-add-t29 c = let f = step-small (c .before .before) in let h = c .before .loop-test .left in record { fits = omega arith }
+add-t34 : tie.Need-add-t34 Inv-loop μ-loop
+add-t34 c = let f = step-small (c .before .before) in let h = c .before .loop-test .left in record { fits = omega arith }
+
+same-length-8 : tie.Need-same-length-8 Inv-loop μ-loop
+same-length-8 c = same-index (c .before .before)
 
 returns-4 : tie.Need-returns-4 Inv-loop μ-loop
-returns-4 c = far-all (c .before .before .loop .inv) (c .before .loop-test .left)
+returns-4 c = far-all (c .before .before .loop .inv .0) (c .before .loop-test .left)
 
 pub several-spec : {M : Type 1} → statement M
 several-spec =
@@ -202,11 +259,13 @@ several-spec =
     add-if1
     mul-if1
     (λ c. search needs)
+    same-length-2
     returns
     div-row-at
     row-at-requires
     refusal-requires
     (λ c. search needs)
+    same-length-4
     returns-2
     (λ c. search needs)
     rem-least
@@ -214,11 +273,13 @@ several-spec =
     (λ c κs. search needs)
     along-requires
     (λ c κs. search needs)
-    same-length-3
+    same-length-5
+    same-length-6
     returns-3
     add-k
     loop-less
     loop-again
-    add-t29
+    add-t34
     (λ c. search needs)
+    same-length-8
     returns-4)

@@ -1,0 +1,3 @@
+pub mod ReturnLaws
+pub mod Promises
+pub mod AfterLaws

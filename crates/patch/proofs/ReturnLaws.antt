@@ -1,0 +1,68 @@
+-- What a C caller gets of a call, from what the room's call ensures: its answer r reads as the definition's, a. In each law the code has matched r, and found the case s.
+--
+--   in-case             the case reads as a too
+--   returned            the number that is returned, and what is left at a lent place that held x
+--   returned-beside     the same of what is given beside the answer
+--   returned-list       the same of a list that is given and then written, for the words that stood there
+--   returned-writing    the number of a writer, its buffer t, and what is left at the lent place of its count
+--   returned-landing    all that a call of the walk leaves
+--   returned-step       the same of a step or run, with the lent flag that held f
+--   row-whole           k words, read as the first row of rows of k words, are those words
+--   row-only            k words, written over k words, are what stands there
+use mathlib.Core.Path.{_≡_, sym, _∙_, ap}
+use mathlib.Core.Bool.{Bool}
+use mathlib.Core.List.{List}
+use Prim.Native.Nat.{ℕ, _+_, _*_, _<_}
+use native.Mathlib.Omega.{arith}
+use lib.ListN.{length, getD}
+use lib.Seq.{ext-getD}
+use Rattle.algebra.specs.Answer.{Answer, gives}
+use Rattle.algebra.specs.Words.{rowOf, setRow}
+use Rattle.algebra.proofs.WordLaws.{row-length, row-at, row-same, setRow-length}
+use Rattle.reach.specs.Walks.{Reply, Landing, leaves}
+use Rattle.triples.specs.Sizes.{wordCount}
+use Rattle.walks.specs.Calls.{readWalk}
+use Rattle.walks.specs.declared.Walk.{Walk}
+use Rattle.records.specs.Calls.{Writing, readWritten, leftIn}
+use Rattle.records.specs.declared.Written.{Written}
+use Rattle.patch.specs.Returns.{numberOf, leftAt, besideAt, doneAt, leftBy, leftOf}
+
+-- ---- lists
+
+module _ (k : ℕ) where
+  pub row-whole : (t : List ℕ) → length t ≡ k → rowOf k t 0 ≡ t
+  row-whole t e =
+      ext-getD 0 (rowOf k t 0) t (row-length k t 0 ∙ sym e)
+      (λ i h. let l : i < k = omega (arith, row-length k t 0) in row-at k t 0 i l ∙ ap (λ (j : ℕ). getD t j 0) (let z : k * 0 + i ≡ i = omega arith in z))
+
+  pub row-only : (t w : List ℕ) → length t ≡ k → length w ≡ k → setRow t 0 w ≡ w
+  row-only t w e f = sym (row-whole (setRow t 0 w) (setRow-length t 0 w ∙ e)) ∙ row-same k t 0 w f (omega arith)
+
+-- ---- answers
+
+pub in-case : {E A : Type 0} (read : E → A) {r s : E} {a : A} → r ≡ s → read r ≡ a → read s ≡ a
+in-case read e p = sym (ap read e) ∙ p
+
+module _ {E A : Type 0} (read : E → Answer A) where
+  pub returned : (x : A) {r s : E} {a : Answer A} → r ≡ s → read r ≡ a → (numberOf (read s) ≡ numberOf a) × (leftAt x (read s) ≡ leftAt x a)
+  returned x e p = let q = in-case read e p in (ap numberOf q, ap (leftAt x) q)
+
+  pub returned-beside : {B : Type 0} (x : B) {r s : E} {a : Answer A} {y b : B} → r ≡ s → read r ≡ a → y ≡ b → (numberOf (read s) ≡ numberOf a) × (besideAt x (read s) y ≡ besideAt x a b)
+  returned-beside x e p z = let q = in-case read e p in (ap numberOf q, λ i. besideAt x (q i) (z i))
+
+-- `u` is what stands at the place that held x
+pub returned-list : (x w : List ℕ) {u : List ℕ} {a : Answer (List ℕ)} → length x ≡ wordCount → length w ≡ wordCount → u ≡ setRow x 0 w → gives w ≡ a → (0 ≡ numberOf a) × (u ≡ leftAt x a)
+returned-list x w e f p q = (ap numberOf q, p ∙ row-only wordCount x w e f ∙ ap (leftAt x) q)
+
+pub returned-writing : (x : ℕ) (t : List ℕ) {r s : Written} {g : Writing} → r ≡ s → leftIn t r ≡ g
+    → (numberOf (readWritten s) ≡ numberOf (g .answer)) × (t ≡ g .buffer) × (leftAt x (readWritten s) ≡ leftAt x (g .answer))
+returned-writing x t e p = let q = returned readWritten x e (ap (λ (g : Writing). g .answer) p) in (q .0, ap (λ (g : Writing). g .buffer) p, q .1)
+
+-- ---- the walk
+
+pub returned-landing : {n : ℕ} {a : Answer Reply} (w : Walk) (t : List ℕ) {l : Landing} → n ≡ numberOf a → leaves t (readWalk w) a ≡ l → leftBy n w t ≡ leftOf l
+returned-landing w t e p = ap (λ (n : ℕ). leftBy n w t) e ∙ ap leftOf p
+
+pub returned-step : {n : ℕ} {d : Bool} {a : Answer Reply} (w : Walk) (t : List ℕ) (f : Bool) {l : Landing} → (n ≡ numberOf a) × (d ≡ doneAt f a) → leaves t (readWalk w) a ≡ l
+    → (leftBy n w t ≡ leftOf l) × (d ≡ doneAt f (l .answer))
+returned-step w t f e p = (returned-landing w t (e .0) p, e .1 ∙ ap (λ (l : Landing). doneAt f (l .answer)) p)

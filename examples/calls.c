@@ -1,0 +1,177 @@
+/*
+ * calls: every call of patch.h, with document 01's cases. It prints each case that does not answer as it should, then how many did.
+ * What a call lends it finds unchanged where it is refused.
+ */
+#include "patch.h"
+
+#include <stdio.h>
+#include <string.h>
+
+static int passed, failed;
+
+#define IS(claim) is((claim), #claim, __LINE__)
+
+static void is(int holds, const char *claim, int line)
+{
+    if (holds) {
+        passed++;
+    } else {
+        failed++;
+        printf("line %d: not so: %s\n", line, claim);
+    }
+}
+
+/* the square with its centre; C is 3: 0,2 against 4; 1,3 against 4; 0,2 against 1,3 */
+static const int32_t square[] = {0, 0, 2, 0, 2, 2, 0, 2, 1, 1};
+enum { N = 10 };
+/* five shots have ten triples: 012 013 014 023 024 034 123 124 134 234 */
+enum { T012 = 1 << 0, T013 = 1 << 1, T023 = 1 << 3, T024 = 1 << 4, T034 = 1 << 5, T123 = 1 << 6, T234 = 1 << 9 };
+
+static uint8_t tested(uint64_t low, uint64_t high)
+{
+    uint64_t list[PATCH_WORDS] = {low, high};
+    return patch_test(square, N, list);
+}
+
+static void patches(void)
+{
+    int32_t far[] = {0, 0, 1000000, 0, 0, -1000000};
+    static const int32_t equal[] = {0, 0, 1, 0, 0, 0, 5, 5};
+    static const int32_t line[] = {0, 0, 1, 1, 7, 7, -2, -2};
+    static const int32_t eleven[22];
+    IS(patch_accept(square, N) == 0);
+    IS(patch_accept(square, 9) == PATCH_COUNT);
+    IS(patch_accept(square, 4) == PATCH_COUNT);
+    IS(patch_accept(eleven, 22) == PATCH_COUNT);
+    IS(patch_accept(far, 6) == 0);
+    far[2] = 1000001;
+    IS(patch_accept(far, 6) == PATCH_RANGE);
+    IS(patch_accept(equal, 8) == PATCH_EQUAL);
+    IS(patch_accept(line, 8) == PATCH_LINE);
+}
+
+static void places(void)
+{
+    int8_t sign = 9;
+    uint64_t area = 99;
+    size_t count = 99;
+    int8_t signs[PATCH_SHOTS_MOST];
+    static const int8_t row[PATCH_SHOTS_MOST] = {0, -1, 0, 1, 0};
+    IS(patch_orientation(square, N, 0, 1, 2, &sign) == 0 && sign == 1);
+    IS(patch_orientation(square, N, 0, 2, 1, &sign) == 0 && sign == -1);
+    IS(patch_orientation(square, N, 0, 2, 4, &sign) == 0 && sign == 0);
+    sign = 9;
+    IS(patch_orientation(square, N, 0, 1, 5, &sign) == PATCH_FORM && sign == 9);
+    IS(patch_orientation(square, 9, 0, 1, 2, &sign) == PATCH_COUNT && sign == 9);
+    IS(patch_double_area(square, N, 0, 1, 2, &area) == 0 && area == 4);
+    IS(patch_double_area(square, N, 0, 1, (size_t)-1, &area) == PATCH_FORM && area == 4);
+    memset(signs, 9, sizeof signs);
+    IS(patch_cocircuit(square, N, 0, 2, signs) == 0 && memcmp(signs, row, sizeof signs) == 0);
+    IS(patch_cocircuit(square, N, 2, 0, signs) == PATCH_FORM && memcmp(signs, row, sizeof signs) == 0);
+    IS(patch_border(square, N, &count) == 0 && count == 4);
+    IS(patch_border(square, 3, &count) == PATCH_COUNT && count == 4);
+}
+
+static void circuits(void)
+{
+    size_t count = 99;
+    uint16_t plus = 99, minus = 99;
+    IS(patch_circuits(square, N, &count) == 0 && count == 3);
+    IS(patch_circuits(square, 3, &count) == PATCH_COUNT && count == 3);
+    IS(patch_circuit(square, N, 0, &plus, &minus) == 0 && plus == 5 && minus == 16);
+    IS(patch_circuit(square, N, 1, &plus, &minus) == 0 && plus == 10 && minus == 16);
+    IS(patch_circuit(square, N, 2, &plus, &minus) == 0 && plus == 5 && minus == 10);
+    IS(patch_circuit(square, N, 3, &plus, &minus) == PATCH_CIRCUIT && plus == 5 && minus == 10);
+}
+
+static void lists(void)
+{
+    IS(tested(T012 | T023, 0) == 0);
+    IS(tested(T012, 0) == PATCH_OPEN);
+    IS(tested(T012 | T023 | T013, 0) == PATCH_CROSSING);
+    IS(tested(T012 | T034 | T234, 0) == PATCH_CROSSING); /* though its areas add up to 8 */
+    IS(tested(0, 0) == PATCH_EMPTY);
+    IS(tested(T024, 0) == PATCH_FORM);
+    IS(tested(1 << 10, 0) == PATCH_FORM);
+    IS(tested(T012 | T023, 1) == PATCH_FORM);
+}
+
+static void surfaces(void)
+{
+    uint64_t list[PATCH_WORDS] = {77, 77};
+    IS(patch_placing(square, 3, list) == PATCH_COUNT && list[0] == 77 && list[1] == 77);
+    IS(patch_placing(square, N, list) == 0 && list[0] == (T012 | T023) && list[1] == 0);
+    IS(patch_flip(square, N, list, 1) == PATCH_NO_FLIP && list[0] == (T012 | T023) && list[1] == 0);
+    IS(patch_flip(square, N, list, 3) == PATCH_CIRCUIT && list[0] == (T012 | T023) && list[1] == 0);
+    IS(patch_flip(square, N, list, 2) == 0 && list[0] == (T013 | T123) && list[1] == 0);
+    IS(patch_flip(square, N, list, 2) == 0 && list[0] == (T012 | T023) && list[1] == 0);
+    list[0] = T012;
+    IS(patch_flip(square, N, list, 2) == PATCH_OPEN && list[0] == T012);
+}
+
+static void walks(void)
+{
+    static const uint64_t halves[PATCH_WORDS] = {T012 | T023, 0};
+    static const uint64_t half[PATCH_WORDS] = {T012, 0};
+    uint64_t table[7] = {7, 7, 7, 7, 7, 7, 7};
+    patch_walk walk = {5, 99};
+    bool done = true;
+    IS(patch_step(square, N, table, 6, &walk, &done) == PATCH_WALK && walk.rows == 5 && walk.step == 99 && done);
+    IS(patch_start(square, N, half, table, 6, &walk) == PATCH_OPEN && walk.rows == 5 && table[0] == 7);
+    IS(patch_start(square, N, halves, table, 1, &walk) == PATCH_ROOM && walk.rows == 5 && table[0] == 7);
+    IS(patch_start(square, N, halves, table, 6, &walk) == 0 && walk.rows == 1 && walk.step == 0);
+    IS(table[0] == halves[0] && table[1] == halves[1] && table[2] == 7);
+
+    /* a table of 5 words has two rows: the third surface finds no room at step 2, and the same step goes on in three */
+    IS(patch_run(square, N, table, 5, &walk, 100, &done) == PATCH_ROOM && walk.rows == 2 && walk.step == 2 && done);
+    IS(patch_step(square, N, table, 5, &walk, &done) == PATCH_ROOM && walk.rows == 2 && walk.step == 2 && done);
+    IS(patch_step(square, N, table, 6, &walk, &done) == 0 && walk.rows == 3 && walk.step == 3 && !done);
+    IS(table[4] == (T013 | T123) && table[5] == 0 && table[6] == 7);
+    IS(patch_run(square, N, table, 6, &walk, 6, &done) == 0 && walk.step == 9 && !done);
+    IS(patch_run(square, N, table, 6, &walk, 0, &done) == 0 && walk.step == 9 && !done);
+    IS(patch_step(square, N, table, 6, &walk, &done) == 0 && walk.rows == 3 && walk.step == 9 && done);
+}
+
+static void records(void)
+{
+    static const uint8_t half[] = {0, 6, 1, 5, 1, 0, 1, 2};
+    static const uint8_t halves[] = {0, 9, 1, 5, 2, 0, 1, 2, 0, 2, 3};
+    uint8_t bytes[PATCH_PATCH_BYTES + 1], again[PATCH_PATCH_BYTES + 1];
+    int32_t shots[PATCH_COORDINATES_MOST];
+    uint64_t list[PATCH_WORDS] = {77, 77};
+    size_t size = 99, count = 99;
+
+    memset(bytes, 0xee, sizeof bytes);
+    IS(patch_write_patch(square, N, bytes, 43, &size) == PATCH_ROOM && size == 99 && bytes[0] == 0xee);
+    IS(patch_write_patch(square, N, bytes, sizeof bytes, &size) == 0 && size == 44 && bytes[44] == 0xee);
+    IS(bytes[0] == 0 && bytes[1] == 42 && bytes[2] == 1 && bytes[3] == 5 && bytes[15] == 2 && bytes[43] == 1);
+    memset(shots, 0x11, sizeof shots);
+    IS(patch_read_patch(bytes, 43, shots, &count) == PATCH_LENGTH && count == 99 && shots[0] == 0x11111111);
+    IS(patch_read_patch(bytes, 44, shots, &count) == 0 && count == 5);
+    IS(memcmp(shots, square, sizeof square) == 0 && shots[10] == 0 && shots[19] == 0);
+    IS(patch_write_patch(shots, 2 * count, again, sizeof again, &size) == 0 && memcmp(bytes, again, 44) == 0);
+    bytes[2] = 2;
+    IS(patch_read_patch(bytes, 44, shots, &count) == PATCH_VERSION && count == 5);
+
+    IS(patch_read_surface(square, N, half, sizeof half, list) == PATCH_OPEN && list[0] == 77 && list[1] == 77);
+    IS(patch_read_surface(square, N, halves, 10, list) == PATCH_LENGTH && list[0] == 77);
+    IS(patch_read_surface(square, N, halves, sizeof halves, list) == 0 && list[0] == (T012 | T023) && list[1] == 0);
+    memset(bytes, 0xee, sizeof bytes);
+    IS(patch_write_surface(square, N, list, bytes, 10, &size) == PATCH_ROOM && bytes[0] == 0xee && size == 44);
+    IS(patch_write_surface(square, N, list, bytes, 11, &size) == 0 && size == 11 && memcmp(bytes, halves, 11) == 0 && bytes[11] == 0xee);
+    list[0] = 0;
+    IS(patch_write_surface(square, N, list, bytes, 11, &size) == PATCH_EMPTY && size == 11 && memcmp(bytes, halves, 11) == 0);
+}
+
+int main(void)
+{
+    patches();
+    places();
+    circuits();
+    lists();
+    surfaces();
+    walks();
+    records();
+    printf("%d passed, %d failed\n", passed, failed);
+    return failed != 0;
+}

@@ -1,0 +1,133 @@
+/*
+ * client: what an app does with a patch from its store.
+ *
+ *     client PATCH [SURFACE]
+ *
+ * reads a patch record and, where one is named, a surface record, and tests it. It prints the refusal in words, or every surface that flips
+ * reach from the stored one (from the placing surface where none is named). Exit status: 0, 1 where a record is refused, 2 where a file
+ * cannot be read.
+ */
+#include "patch.h"
+
+#include <stdio.h>
+#include <stdlib.h>
+
+/* what a record in the store can be wrong about, for the user of the app */
+static const char *in_words(uint8_t refusal)
+{
+    switch (refusal) {
+    case PATCH_COUNT: return "a patch has 3 to 10 shots";
+    case PATCH_RANGE: return "a coordinate is out of range";
+    case PATCH_EQUAL: return "two shots are at the same place";
+    case PATCH_LINE: return "all shots are on one line";
+    case PATCH_LENGTH: return "the record is cut off or too long";
+    case PATCH_VERSION: return "the record has another version";
+    case PATCH_FORM: return "a triangle names no shots of this patch, is flat or out of order";
+    case PATCH_EMPTY: return "the surface has no triangle";
+    case PATCH_CROSSING: return "two triangles cross or overlap";
+    case PATCH_OPEN: return "the surface has a hole: an open edge";
+    case PATCH_ROOM: return "there is no room";
+    case PATCH_CIRCUIT: return "there is no such circuit";
+    case PATCH_NO_FLIP: return "there is no such flip";
+    case PATCH_RESULT: return "the surface that was worked out fails the test";
+    case PATCH_WALK: return "the walk's record is impossible";
+    default: return "given";
+    }
+}
+
+static int refused(const char *what, uint8_t refusal)
+{
+    printf("%s: refused %u: %s\n", what, (unsigned)refusal, in_words(refusal));
+    return 1;
+}
+
+/* the bytes of a file; one more than a length field can frame is enough to be refused */
+static size_t load(const char *name, uint8_t *bytes, size_t most)
+{
+    FILE *file = fopen(name, "rb");
+    if (!file) {
+        perror(name);
+        exit(2);
+    }
+    size_t size = fread(bytes, 1, most, file);
+    if (ferror(file)) {
+        perror(name);
+        exit(2);
+    }
+    fclose(file);
+    return size;
+}
+
+/* the triangles of a list by their shots: its record has them one by one */
+static uint8_t show(const int32_t *shots, size_t length, const uint64_t *list)
+{
+    uint8_t record[PATCH_SURFACE_BYTES];
+    size_t size;
+    uint8_t refusal = patch_write_surface(shots, length, list, record, sizeof record, &size);
+    if (refusal == 0)
+        for (size_t at = 5; at < size; at += 3)
+            printf(" %u%u%u", record[at], record[at + 1], record[at + 2]);
+    return refusal;
+}
+
+/* All surfaces from the first one. The table grows when it is full: the same step is then asked again over the longer one. */
+static uint8_t walk_from(const int32_t *shots, size_t length, const uint64_t *first)
+{
+    size_t rows = 16;
+    uint64_t *table = malloc(rows * PATCH_WORDS * sizeof *table);
+    patch_walk walk;
+    bool done = false;
+    if (!table)
+        return PATCH_ROOM;
+    uint8_t refusal = patch_start(shots, length, first, table, rows * PATCH_WORDS, &walk);
+    while (refusal == 0 && !done) {
+        refusal = patch_run(shots, length, table, rows * PATCH_WORDS, &walk, 10000, &done);
+        if (refusal == PATCH_ROOM && rows < PATCH_ROWS_MOST) {
+            rows *= 2;
+            uint64_t *longer = realloc(table, rows * PATCH_WORDS * sizeof *table);
+            if (!longer)
+                break;
+            table = longer;
+            refusal = 0;
+        }
+    }
+    for (size_t row = 0; refusal == 0 && row < walk.rows; row++) {
+        printf("%zu", row);
+        refusal = show(shots, length, table + row * PATCH_WORDS);
+        putchar('\n');
+    }
+    if (refusal == 0)
+        printf("%zu surfaces, %zu steps\n", walk.rows, walk.step);
+    free(table);
+    return refusal;
+}
+
+int main(int argc, char **argv)
+{
+    static uint8_t bytes[65538];
+    int32_t shots[PATCH_COORDINATES_MOST];
+    size_t count;
+    uint64_t list[PATCH_WORDS];
+
+    if (argc != 2 && argc != 3) {
+        fprintf(stderr, "usage: %s PATCH [SURFACE]\n", argv[0]);
+        return 2;
+    }
+    uint8_t refusal = patch_read_patch(bytes, load(argv[1], bytes, sizeof bytes), shots, &count);
+    if (refusal != 0)
+        return refused(argv[1], refusal);
+
+    size_t length = 2 * count;
+    if (argc == 3) {
+        refusal = patch_read_surface(shots, length, bytes, load(argv[2], bytes, sizeof bytes), list);
+        if (refusal != 0)
+            return refused(argv[2], refusal);
+    } else {
+        refusal = patch_placing(shots, length, list);
+        if (refusal != 0)
+            return refused("placing surface", refusal);
+    }
+    printf("%s: accepted, %zu shots\n", argv[1], count);
+    refusal = walk_from(shots, length, list);
+    return refusal == 0 ? 0 : refused("walk", refusal);
+}

@@ -1,0 +1,161 @@
+/*
+ * patch.h: the patch library for C.
+ *
+ * A patch is 3 to 10 levelled shots, each a place in whole millimetres. A surface over it is a list of triangles, triples of shot
+ * numbers. The library tests whether a list is a triangulation of its shots, reads and writes both as records, and lists every
+ * surface that flips reach from a first one. Each call is proved to answer as stated here, for every input (docs/PROMISES.md).
+ *
+ * THE ANSWER. A call returns one number: 0 where it gives something, else the number that refuses it, 1 to 15. What it gives is never
+ * in that number: it is written to places that the caller lends (sign, area, count, list, ...). So 0 and a refusal cannot be
+ * mistaken for a value. Where several rules are broken, the refusals are tested in the order written at the call.
+ *
+ * A REFUSED CALL changes nothing that it was lent: no list, table, record, buffer, flag or count. One exception: patch_run keeps the
+ * steps that it made before the refused one.
+ *
+ * MEMORY. All memory is the caller's, before, during and after a call. The library never allocates, never blocks, keeps no state and
+ * no pointer, and calls nothing of the C library but memcpy and memset. Calls from several threads need no lock as long as no one
+ * writes what another lends. A call needs less than 64 KB of stack.
+ *
+ * WHAT THE CALLER OWES. A pointer to as many elements as the length beside it says, or as the array has that is written here; aligned
+ * for its type; not null, not even with a length of 0; and no two of the lent places may overlap where one of them is written to. Every
+ * value in that memory is allowed: whatever is wrong with it gets its number.
+ *
+ * Link: libpatch.a, for x86-64 (README.md).
+ */
+#ifndef PATCH_H
+#define PATCH_H
+
+#include <stdbool.h>
+#include <stddef.h>
+#include <stdint.h>
+
+#ifdef __cplusplus
+extern "C" {
+#endif
+
+/* ---- sizes */
+
+#define PATCH_SHOTS_LEAST 3
+#define PATCH_SHOTS_MOST 10
+#define PATCH_COORDINATES_MOST 20  /* x and y of ten shots */
+#define PATCH_HIGHEST 1000000      /* a coordinate lies between -PATCH_HIGHEST and PATCH_HIGHEST, both included */
+#define PATCH_CIRCUITS_MOST 330    /* no patch has more circuits */
+#define PATCH_WORDS 2              /* a list, and a row of a table, has so many 64-bit words */
+#define PATCH_ROWS_MOST 65535      /* a walk uses at most so many rows of its table */
+#define PATCH_PATCH_BYTES 84       /* no patch record is longer */
+#define PATCH_SURFACE_BYTES 365    /* no surface record is longer */
+
+/* ---- the refusals; the numbers are those of the field manual, 10 stands before 8 and 9 */
+
+enum patch_refusal {
+    PATCH_GIVEN = 0,      /* no refusal */
+    PATCH_COUNT = 1,      /* the run of coordinates is odd, or has not 3 to 10 shots */
+    PATCH_RANGE = 2,      /* a coordinate is not from -1,000,000 to 1,000,000 */
+    PATCH_EQUAL = 3,      /* two shots are equal */
+    PATCH_LINE = 4,       /* all shots are on one line */
+    PATCH_LENGTH = 5,     /* a record's bytes and its length disagree */
+    PATCH_VERSION = 6,    /* the version byte is not 1 */
+    PATCH_FORM = 7,       /* a number is not a shot, a triple or pair is out of form or order, a triple is flat, a bit is past the last rank, n is unlike the patch's */
+    PATCH_EMPTY = 10,     /* the list is empty */
+    PATCH_CROSSING = 8,   /* two triangles cross or overlap */
+    PATCH_OPEN = 9,       /* an edge is open: one triangle alone has it, and it is not on the border */
+    PATCH_ROOM = 11,      /* no room: in a table for a row, in a buffer for a record */
+    PATCH_CIRCUIT = 12,   /* there is no circuit of this number */
+    PATCH_NO_FLIP = 13,   /* there is no flip along this circuit */
+    PATCH_RESULT = 14,    /* the surface that was worked out fails the test */
+    PATCH_WALK = 15       /* no walk has this record: rows 0 or beyond the table, or a step number above rows times circuits */
+};
+
+/* ---- what is lent
+ *
+ * shots, length: the run of coordinates, x then y of each shot; length counts the numbers, twice the shots.
+ *
+ * list: a set of triples as two words. The triples i < j < k of the patch's n shots are ranked in lexicographic order from 0; the triple
+ * of rank r is bit r % 64, from the low end, of word r / 64. To get at the triples of a list, write its record: it has them one by one,
+ * in order; to make a list of triples, read one.
+ *
+ * table, words: a run of 64-bit words, PATCH_WORDS to a row. Its capacity is the number of whole rows, at most PATCH_ROWS_MOST; words
+ * behind the last whole row are never touched.
+ */
+
+/* Where a walk stands; patch_start sets it. The host keeps it between calls. */
+typedef struct patch_walk {
+    size_t rows; /* rows of the table in use */
+    size_t step; /* number of the next step */
+} patch_walk;
+
+/* ---- shots */
+
+/* Is the run a patch? Refused: 1 2 3 4. */
+uint8_t patch_accept(const int32_t *shots, size_t length);
+
+/* *sign: 1 where a, b, c turn counterclockwise, -1 clockwise, 0 on a line. Refused: 1 2 3 4, 7 (one of them is not a shot). */
+uint8_t patch_orientation(const int32_t *shots, size_t length, size_t a, size_t b, size_t c, int8_t *sign);
+
+/* *area: twice the area of the triangle a, b, c, in square millimetres. Refused: 1 2 3 4, 7 (one of them is not a shot). */
+uint8_t patch_double_area(const int32_t *shots, size_t length, size_t a, size_t b, size_t c, uint64_t *area);
+
+/* signs[k]: the orientation of i, j, k for each shot k; 0 past the shots. Refused: 1 2 3 4, 7 (not a pair i < j of shots). */
+uint8_t patch_cocircuit(const int32_t *shots, size_t length, size_t i, size_t j, int8_t signs[PATCH_SHOTS_MOST]);
+
+/* *count: the border pairs, pairs of shots with no two others on opposite sides of their line. Refused: 1 2 3 4. */
+uint8_t patch_border(const int32_t *shots, size_t length, size_t *count);
+
+/* ---- circuits: three shots on a line, or four of which no three are; split in two sides whose hulls meet */
+
+/* *count: C, the number of circuits. They are numbered from 0, those of three first. Refused: 1 2 3 4. */
+uint8_t patch_circuits(const int32_t *shots, size_t length, size_t *count);
+
+/* *plus, *minus: the two sides of circuit z, shot i at bit i; the plus side has the smallest shot. Refused: 1 2 3 4, 12. */
+uint8_t patch_circuit(const int32_t *shots, size_t length, size_t z, uint16_t *plus, uint16_t *minus);
+
+/* ---- lists and surfaces */
+
+/* Is the list a triangulation of the shots? It need not use every shot. Refused: 1 2 3 4, 7 10 8 9. */
+uint8_t patch_test(const int32_t *shots, size_t length, const uint64_t list[PATCH_WORDS]);
+
+/* list: the placing surface, a first one for every patch. Refused: 1 2 3 4, 14. */
+uint8_t patch_placing(const int32_t *shots, size_t length, uint64_t list[PATCH_WORDS]);
+
+/* list: the surface flipped along circuit z, in the place of the one that was lent. Refused: 1 2 3 4, 7 10 8 9, 12 13 14. */
+uint8_t patch_flip(const int32_t *shots, size_t length, uint64_t list[PATCH_WORDS], size_t z);
+
+/* ---- the walk: all surfaces that flips reach from a first one
+ *
+ * Step s tries circuit s % C on row s / C and writes a surface that is new at the next row. The walk is done after rows * C steps, and
+ * then the rows are exactly the surfaces that flips reach, each once. Where the table is full (11) the same step can be asked again over
+ * a longer table with the same rows.
+ */
+
+/* Begins a walk: the list is row 0, *walk is one row and step 0, whatever it was before. Refused: 1 2 3 4, 7 10 8 9, 11 (less than one row). */
+uint8_t patch_start(const int32_t *shots, size_t length, const uint64_t list[PATCH_WORDS], uint64_t *table, size_t words, patch_walk *walk);
+
+/* Makes one step. *done: whether the walk was done already, so that nothing was left to do. Refused: 1 2 3 4, 15, the row's 7 10 8 9, 14, 11. */
+uint8_t patch_step(const int32_t *shots, size_t length, uint64_t *table, size_t words, patch_walk *walk, bool *done);
+
+/* Makes up to so many steps, and works the patch out once for all of them. *done: whether the walk was done before they were all made.
+ * Refused: as a step; the steps made before it stand. */
+uint8_t patch_run(const int32_t *shots, size_t length, uint64_t *table, size_t words, patch_walk *walk, size_t steps, bool *done);
+
+/* ---- records: big-endian, two bytes that count what follows them, a version byte, 1, and the number n of shots; then
+ *      a patch: x and y of each shot, four bytes each, in two's complement;
+ *      a surface: the number t of triples, then t triples of three bytes, increasing in a triple, the triples in lexicographic order
+ */
+
+/* shots: the coordinates, 0 past the last; *count: the number of shots, so the run has 2 * *count numbers. Refused: 5 6 1 5 2 3 4. */
+uint8_t patch_read_patch(const uint8_t *bytes, size_t size, int32_t shots[PATCH_COORDINATES_MOST], size_t *count);
+
+/* buffer: the record, in front; all behind it stays. *written: its bytes. Refused: 1 2 3 4, 11 (room for fewer bytes). */
+uint8_t patch_write_patch(const int32_t *shots, size_t length, uint8_t *buffer, size_t room, size_t *written);
+
+/* list: the record's triples, tested against the patch. Refused: 1 2 3 4, 5 6 7 5 7 10 8 9. */
+uint8_t patch_read_surface(const int32_t *shots, size_t length, const uint8_t *bytes, size_t size, uint64_t list[PATCH_WORDS]);
+
+/* buffer: the record, in front; all behind it stays. *written: its bytes. Refused: 1 2 3 4, 7 10 8 9, 11 (room for fewer bytes). */
+uint8_t patch_write_surface(const int32_t *shots, size_t length, const uint64_t list[PATCH_WORDS], uint8_t *buffer, size_t room, size_t *written);
+
+#ifdef __cplusplus
+}
+#endif
+
+#endif
