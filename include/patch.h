@@ -13,7 +13,7 @@
  * steps that it made before the refused one.
  *
  * MEMORY. All memory is the caller's, before, during and after a call. The library never allocates, never blocks, keeps no state and
- * no pointer, and calls nothing of the C library but memcpy and memset. Calls from several threads need no lock as long as no one
+ * no pointer, and calls nothing of the C library but, at most, memcpy and memset. Calls from several threads need no lock as long as no one
  * writes what another lends. A call needs less than 64 KB of stack.
  *
  * WHAT THE CALLER OWES. A pointer to as many elements as the length beside it says, or as the array has that is written here; aligned
@@ -45,7 +45,7 @@ extern "C" {
 #define PATCH_PATCH_BYTES 84       /* no patch record is longer */
 #define PATCH_SURFACE_BYTES 365    /* no surface record is longer */
 
-/* ---- the refusals; the numbers are those of the field manual, 10 stands before 8 and 9 */
+/* ---- the refusals. The numbers are fixed; where several rules are broken, the order is the one written at each call, in which 10 stands before 8. */
 
 enum patch_refusal {
     PATCH_GIVEN = 0,      /* no refusal */
