@@ -1,3 +1,5 @@
 pub mod WalkLaws
+pub mod LineLaws
+pub mod ReadLaws
 pub mod Promises
 pub mod Square

@@ -1,6 +1,8 @@
 -- What the report promises of a patch record, beyond its text (specs/Report).
 --
---   report-one          two permitted texts are the same
+--   part-one            two texts that `lines::part` may print for the same lines are the same
+--   report-lines        the report is its lines, one behind the other
+--   parts-join          and so are its parts: lines i to j, then lines j to k
 --   report-refused      a refused record: its number, and nothing else
 --   report-long         so it is for all that is longer than a record can be, with 5: reading more bytes than that changes nothing
 --   report-read         an accepted one: what placing answers decides
@@ -12,12 +14,14 @@
 use mathlib.Core.Path.{_≡_, refl, sym, _∙_, ap}
 use mathlib.Core.Logic.{_⊎_, inl, inr, _↔_}
 use mathlib.Core.Bool.{true, false}
-use mathlib.Core.List.{List}
+use mathlib.Core.List.{List, _++_}
 use Prim.Native.Nat.{ℕ, _*_, _≤_}
 use lib.ListN.{length}
 use lib.IntN.{ℤ}
 use Rattle.algebra.specs.Answer.{Answer, gives, refuses}
+use Rattle.algebra.specs.Loops.{over}
 use Rattle.algebra.specs.Words.{Words}
+use Rattle.algebra.proofs.OverLaws.{over-split}
 use Rattle.reach.specs.Walks.{Reply, started, made, done}
 use Rattle.reach.specs.Reach.{Stands}
 use Rattle.reach.proofs.Theorem.{run-done}
@@ -35,10 +39,29 @@ use Rattle.records.proofs.Promises.{read-patch-long}
 use Rattle.text.specs.Lines.{Put, refusedLine}
 use Rattle.report.specs.Sizes.{stepsMost}
 use Rattle.report.specs.Report.{walkOf, surfacesText, endText, endOf, walkText, placedText, patchText, reportOf}
+use Rattle.report.specs.Report.{refusedFind, walkFind, placedFind, patchFind, findOf, lineCount, lineOf}
 use Rattle.report.proofs.WalkLaws.{placing-tested, begun-walked, walk-walked, walk-not-made, walk-not-started}
+use Rattle.report.proofs.LineLaws.{lines-refused, lines-end}
 
-pub report-one : (b t : List ℕ) {u u′ : List ℕ} {r r′ : ℕ} → Put t 0 (reportOf b) u r → Put t 0 (reportOf b) u′ r′ → (r ≡ r′) × (u ≡ u′)
-report-one b t (p, e) (p′, e′) = (p ∙ sym p′, e ∙ sym e′)
+pub part-one : (b t : List ℕ) (i j : ℕ) {u u′ : List ℕ} {r r′ : ℕ} → Put t 0 (over (lineOf (coordinatesOf b) (findOf b)) i j) u r → Put t 0 (over (lineOf (coordinatesOf b) (findOf b)) i j) u′ r′ → (r ≡ r′) × (u ≡ u′)
+part-one b t i j (p, e) (p′, e′) = (p ∙ sym p′, e ∙ sym e′)
+
+pub parts-join : (b : List ℕ) (i j k : ℕ) → i ≤ j → j ≤ k
+    → over (lineOf (coordinatesOf b) (findOf b)) i j ++ over (lineOf (coordinatesOf b) (findOf b)) j k ≡ over (lineOf (coordinatesOf b) (findOf b)) i k
+parts-join b i j k h m = sym (over-split (lineOf (coordinatesOf b) (findOf b)) i j k h m)
+
+placed-lines : (l : List ℤ) (a : Answer (List ℕ)) → placedText l a ≡ over (lineOf l (placedFind l a)) 0 (lineCount (placedFind l a))
+unfolding walkText walkFind
+placed-lines l (gives w) = lines-end l (endOf l w) (walkOf l w .answer)
+placed-lines l (refuses n) = sym (lines-refused l (refusedFind n) refl)
+
+patch-lines : (l : List ℤ) (a : Answer ℕ) → patchText l a ≡ over (lineOf l (patchFind l a)) 0 (lineCount (patchFind l a))
+patch-lines l (gives n) = placed-lines l (placingOf l)
+patch-lines l (refuses n) = sym (lines-refused l (refusedFind n) refl)
+
+pub report-lines : (b : List ℕ) → reportOf b ≡ over (lineOf (coordinatesOf b) (findOf b)) 0 (lineCount (findOf b))
+unfolding reportOf findOf
+report-lines b = patch-lines (coordinatesOf b) (readPatchOf b .answer)
 
 pub report-refused : (b : List ℕ) (n : ℕ) → readPatchOf b .answer ≡ refuses n → reportOf b ≡ refusedLine n
 unfolding reportOf

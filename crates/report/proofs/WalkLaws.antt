@@ -1,10 +1,11 @@
 -- The walk that the report tells of: from an accepted list, in a table of zeros.
 --
 --   placing-tested               a placing surface passes the test
+--   walk-long                    its table keeps its length
 --   begun-walked, walk-walked    start and run make a walk, in the sense of demand 3
 --   rows-fit                     its rows fit into the table
 --   walk-not-made, walk-not-started    it is never only made, nor started anew: it ends done, or is refused
-use mathlib.Core.Path.{_≡_, sym, _∙_, ap}
+use mathlib.Core.Path.{_≡_, sym, _∙_, ap, subst}
 use mathlib.Core.List.{List, [], _∷_}
 use Prim.Native.Nat.{ℕ, _<_, _≤_}
 use native.Mathlib.Omega.{arith}
@@ -15,6 +16,7 @@ use Rattle.algebra.specs.Answer.{gives}
 use Rattle.algebra.proofs.AnswerLaws.{clear-append}
 use Rattle.reach.specs.Walks.{started, made, Landing, rowsMost, capacityOf}
 use Rattle.reach.specs.Walked.{Walked, starts, runs}
+use Rattle.reach.proofs.TableLaws.{run-long, start-long}
 use Rattle.reach.proofs.StepLaws.{start-writes}
 use Rattle.reach.proofs.Theorem.{walk-listing, run-ends, run-never-started}
 use Rattle.shots.specs.Lines.{shotLines}
@@ -31,6 +33,10 @@ use Rattle.walks.specs.Calls.{plane}
 use Rattle.walks.proofs.Theorem.{plane-sound}
 use Rattle.report.specs.Sizes.{tableRows, tableWords, stepsMost}
 use Rattle.report.specs.Report.{noWalk, begunOf, walkOf}
+
+pub walk-long : (l : List ℤ) (w : List ℕ) → length (walkOf l w .table) ≡ tableWords
+unfolding walkOf begunOf
+walk-long l w = run-long (plane l) (begunOf l w .table) (begunOf l w .walk) stepsMost ∙ start-long (plane l) (replicate tableWords 0) noWalk w ∙ length-replicate {A = ℕ} tableWords 0
 
 pub placing-tested : (l : List ℤ) (w : List ℕ) → placingOf l ≡ gives w → testOf l w ≡ gives tt
 placing-tested l w e =
@@ -62,8 +68,10 @@ module _ (l : List ℤ) (w : List ℕ) (accepted : testOf l w ≡ gives tt) wher
   walk-walked = runs (begunOf l w .table) (begunOf l w .walk) stepsMost begun-walked
 
   module _ (size : length w ≡ wordCount) where
-    pub rows-fit : (0 < walkOf l w .walk .rows) × (walkOf l w .walk .rows ≤ capacityOf wordCount (length (walkOf l w .table)))
-    rows-fit = let p = walk-listing (plane-sound l) w size walk-walked .possible in (p .0, p .1)
+    pub rows-fit : (0 < walkOf l w .walk .rows) × (walkOf l w .walk .rows ≤ tableRows)
+    rows-fit =
+        let p = walk-listing (plane-sound l) w size walk-walked .possible in
+        (p .0, subst (λ m. walkOf l w .walk .rows ≤ m) (capacity (walkOf l w .table) (walk-long l w)) (p .1))
 
     pub walk-not-made : walkOf l w .answer ≡ gives made → ⊥
     unfolding walkOf

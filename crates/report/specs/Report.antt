@@ -10,11 +10,15 @@
 --   placedText l a    the walk from the placing surface; or the number that refuses it
 --   patchText l a     so for the patch that was read; or the number that refuses the record
 --   reportOf b        the report of the bytes b
+--   Find              what is known after the walk: whether surfaces are shown; else the number that is printed; where the walk ended; whether it is complete
+--   readFound f t     so from the code's record and the table
+--   findOf b          so for the bytes b
+--   lineCount f, lineOf l f i    the lines of a report, by what is known: how many, and line i
 --
 -- Theorems: proofs/Promises. Source: document 01, "The square with its centre".
 use mathlib.Core.Bool.{Bool, true, false, cond}
 use mathlib.Core.List.{List, _++_}
-use Prim.Native.Nat.{ℕ}
+use Prim.Native.Nat.{ℕ, _+_, _-_}
 use lib.Dec.{eqb}
 use lib.ListN.{length, replicate}
 use lib.IntN.{ℤ}
@@ -34,6 +38,7 @@ use Rattle.records.specs.Reading.{coordinatesOf}
 use Rattle.records.specs.Calls.{readPatchOf}
 use Rattle.text.specs.Lines.{patchLine, rowLine, lastLine, refusedLine}
 use Rattle.report.specs.Sizes.{tableWords, stepsMost}
+use Rattle.report.specs.declared.Found.{Found}
 
 -- ---- the walk
 
@@ -91,3 +96,51 @@ patchText l (refuses n) = refusedLine n
 
 unfoldable pub reportOf : List ℕ → List ℕ
 reportOf b = patchText (coordinatesOf b) (readPatchOf b .answer)
+
+-- ---- the same line by line
+
+pub record Find : Type 0 where
+  pub shown : Bool
+  pub number : ℕ
+  pub ended : Ended
+  pub complete : Bool
+
+abbrev pub readFound : Found → List ℕ → Find
+readFound f t = record { shown = f .shown; number = f .number; ended = endedIn t (f .walk); complete = f .done }
+
+-- a number alone, and no walk
+abbrev pub refusedFind : ℕ → Find
+refusedFind n = record { shown = false; number = n; ended = record { walk = noWalk; table = replicate tableWords 0 }; complete = false }
+
+abbrev pub endFind : Ended → Answer Reply → Find
+endFind x (gives started) = record { shown = true; number = 0; ended = x; complete = false }
+endFind x (gives made) = record { shown = true; number = 0; ended = x; complete = false }
+endFind x (gives done) = record { shown = true; number = 0; ended = x; complete = true }
+endFind x (refuses n) = record { shown = eqb n 11; number = n; ended = x; complete = false }
+
+unfoldable pub walkFind : List ℤ → List ℕ → Find
+walkFind l w = endFind (endOf l w) (walkOf l w .answer)
+
+abbrev pub placedFind : List ℤ → Answer (List ℕ) → Find
+placedFind l (gives w) = walkFind l w
+placedFind l (refuses n) = refusedFind n
+
+abbrev pub patchFind : List ℤ → Answer ℕ → Find
+patchFind l (gives n) = placedFind l (placingOf l)
+patchFind l (refuses n) = refusedFind n
+
+unfoldable pub findOf : List ℕ → Find
+findOf b = patchFind (coordinatesOf b) (readPatchOf b .answer)
+
+abbrev pub lineCount : Find → ℕ
+lineCount f = cond (f .shown) (f .ended .walk .rows + 2) 1
+
+-- the first line, then the rows, then the last line
+unfoldable pub shownLine : List ℤ → Ended → Bool → ℕ → List ℕ
+shownLine l x d i =
+    cond (eqb i 0) (firstLine l (rowOf wordCount (x .table) 0))
+    (cond (eqb i (x .walk .rows + 1)) (lastLine d (x .walk .rows) (x .walk .step))
+    (lineAt (countOf l) (x .table) (i - 1)))
+
+unfoldable pub lineOf : List ℤ → Find → ℕ → List ℕ
+lineOf l f i = cond (f .shown) (shownLine l (f .ended) (f .complete) i) (refusedLine (f .number))

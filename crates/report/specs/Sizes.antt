@@ -3,7 +3,8 @@
 --   tableRows      the rows of the table that is walked in
 --   tableWords     its words
 --   stepsMost      more steps than a walk in any table can take
---   reportMost     no report is longer: a line for each row, and two more
+--   partLines      so many lines are printed at a time
+--   partMost       no such part is longer
 use Prim.Native.Nat.{ℕ, _+_, _*_}
 use Rattle.reach.specs.Walks.{rowsMost}
 use Rattle.circuits.specs.Sizes.{circuitsMost}
@@ -19,5 +20,8 @@ tableWords = wordCount * tableRows
 abbrev pub stepsMost : ℕ
 stepsMost = rowsMost * circuitsMost + 1
 
-abbrev pub reportMost : ℕ
-reportMost = (tableRows + 2) * lineMost
+abbrev pub partLines : ℕ
+partLines = 64
+
+abbrev pub partMost : ℕ
+partMost = partLines * lineMost

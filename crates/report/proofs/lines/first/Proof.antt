@@ -1,4 +1,4 @@
--- `report::walked::first` meets its contract: each number of the line is the one that its function counts.
+-- `report::lines::first` meets its contract: each number of the line is the one that its function counts.
 use mathlib.Core.Path.{_≡_}
 use mathlib.Core.List.{List}
 use Prim.Native.Nat.{ℕ}
@@ -17,8 +17,8 @@ use Rattle.surfaces.specs.Areas.{areaSumOf}
 use Rattle.text.specs.Lines.{patchLine}
 use Rattle.text.proofs.PutLaws.{put-same}
 use Rattle.report.specs.Report.{firstLine}
-use Rattle.report.proofs.walked.first.Statement.{statement}
-use Rattle.report.proofs.walked.first.Tie as tie
+use Rattle.report.proofs.lines.first.Statement.{statement}
+use Rattle.report.proofs.lines.first.Tie as tie
 
 all-requires : tie.Need-all-requires
 all-requires c κs =
@@ -49,7 +49,7 @@ returns c =
     let a = d .before .before .before in
     let s = a .before .before .before .before .before .before .before in
     let e = d .patch .ensures in (
-      put-same (s .args .out .now) 0 (d .patch .last .0)
+      put-same (s .args .out .now) (s .args .at) (d .patch .last .0)
           (line-is (s .args .shots .now) (wordsOf (s .args .list)) (poured-count _ _ _ _ _ _ (a .before .before .before .all .ensures)) (a .border-count .ensures) (d .before .before .area .ensures)) (e .0),
       omega (arith, e .1),
     )
