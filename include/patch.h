@@ -17,8 +17,9 @@
  * writes what another lends. A call needs less than 64 KB of stack.
  *
  * WHAT THE CALLER OWES. A pointer to as many elements as the length beside it says, or as the array has that is written here; aligned
- * for its type; not null, not even with a length of 0; and no two of the lent places may overlap where one of them is written to. Every
- * value in that memory is allowed: whatever is wrong with it gets its number.
+ * for its type; not null, not even with a length of 0; no two of the lent places overlap where one of them is written to; and a flag that
+ * is lent holds true or false, so set it before the first call. Every other value in that memory is allowed: whatever is wrong with it gets
+ * its number.
  *
  * Link: libpatch.a, for x86-64 (README.md).
  */
