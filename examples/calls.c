@@ -115,21 +115,21 @@ static void walks(void)
     static const uint64_t half[PATCH_WORDS] = {T012, 0};
     uint64_t table[7] = {7, 7, 7, 7, 7, 7, 7};
     patch_walk walk = {5, 99};
-    bool done = true;
-    IS(patch_step(square, N, table, 6, &walk, &done) == PATCH_WALK && walk.rows == 5 && walk.step == 99 && done);
+    uint8_t done = 77; /* whatever stood there stays where a call is refused */
+    IS(patch_step(square, N, table, 6, &walk, &done) == PATCH_WALK && walk.rows == 5 && walk.step == 99 && done == 77);
     IS(patch_start(square, N, half, table, 6, &walk) == PATCH_OPEN && walk.rows == 5 && table[0] == 7);
     IS(patch_start(square, N, halves, table, 1, &walk) == PATCH_ROOM && walk.rows == 5 && table[0] == 7);
     IS(patch_start(square, N, halves, table, 6, &walk) == 0 && walk.rows == 1 && walk.step == 0);
     IS(table[0] == halves[0] && table[1] == halves[1] && table[2] == 7);
 
     /* a table of 5 words has two rows: the third surface finds no room at step 2, and the same step goes on in three */
-    IS(patch_run(square, N, table, 5, &walk, 100, &done) == PATCH_ROOM && walk.rows == 2 && walk.step == 2 && done);
-    IS(patch_step(square, N, table, 5, &walk, &done) == PATCH_ROOM && walk.rows == 2 && walk.step == 2 && done);
-    IS(patch_step(square, N, table, 6, &walk, &done) == 0 && walk.rows == 3 && walk.step == 3 && !done);
+    IS(patch_run(square, N, table, 5, &walk, 100, &done) == PATCH_ROOM && walk.rows == 2 && walk.step == 2 && done == 77);
+    IS(patch_step(square, N, table, 5, &walk, &done) == PATCH_ROOM && walk.rows == 2 && walk.step == 2 && done == 77);
+    IS(patch_step(square, N, table, 6, &walk, &done) == 0 && walk.rows == 3 && walk.step == 3 && done == 0);
     IS(table[4] == (T013 | T123) && table[5] == 0 && table[6] == 7);
-    IS(patch_run(square, N, table, 6, &walk, 6, &done) == 0 && walk.step == 9 && !done);
-    IS(patch_run(square, N, table, 6, &walk, 0, &done) == 0 && walk.step == 9 && !done);
-    IS(patch_step(square, N, table, 6, &walk, &done) == 0 && walk.rows == 3 && walk.step == 9 && done);
+    IS(patch_run(square, N, table, 6, &walk, 6, &done) == 0 && walk.step == 9 && done == 0);
+    IS(patch_run(square, N, table, 6, &walk, 0, &done) == 0 && walk.step == 9 && done == 0);
+    IS(patch_step(square, N, table, 6, &walk, &done) == 0 && walk.rows == 3 && walk.step == 9 && done == 1);
 }
 
 static void records(void)

@@ -76,7 +76,7 @@ static uint8_t walk_from(const int32_t *shots, size_t length, const uint64_t *fi
     size_t rows = 16;
     uint64_t *table = malloc(rows * PATCH_WORDS * sizeof *table);
     patch_walk walk;
-    bool done = false;
+    uint8_t done = 0;
     if (!table)
         return PATCH_ROOM;
     uint8_t refusal = patch_start(shots, length, first, table, rows * PATCH_WORDS, &walk);

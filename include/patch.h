@@ -17,16 +17,14 @@
  * writes what another lends. A call needs less than 64 KB of stack.
  *
  * WHAT THE CALLER OWES. A pointer to as many elements as the length beside it says, or as the array has that is written here; aligned
- * for its type; not null, not even with a length of 0; no two of the lent places overlap where one of them is written to; and a flag that
- * is lent holds true or false, so set it before the first call. Every other value in that memory is allowed: whatever is wrong with it gets
- * its number.
+ * for its type; not null, not even with a length of 0; and no two of the lent places overlap where one of them is written to. Every value in
+ * that memory is allowed: whatever is wrong with it gets its number.
  *
  * Link: libpatch.a, for x86-64 (README.md).
  */
 #ifndef PATCH_H
 #define PATCH_H
 
-#include <stdbool.h>
 #include <stddef.h>
 #include <stdint.h>
 
@@ -131,12 +129,12 @@ uint8_t patch_flip(const int32_t *shots, size_t length, uint64_t list[PATCH_WORD
 /* Begins a walk: the list is row 0, *walk is one row and step 0, whatever it was before. Refused: 1 2 3 4, 7 10 8 9, 11 (less than one row). */
 uint8_t patch_start(const int32_t *shots, size_t length, const uint64_t list[PATCH_WORDS], uint64_t *table, size_t words, patch_walk *walk);
 
-/* Makes one step. *done: whether the walk was done already, so that nothing was left to do. Refused: 1 2 3 4, 15, the row's 7 10 8 9, 14, 11. */
-uint8_t patch_step(const int32_t *shots, size_t length, uint64_t *table, size_t words, patch_walk *walk, bool *done);
+/* Makes one step. *done: 1 where the walk was done already, so that nothing was left to do, else 0. Refused: 1 2 3 4, 15, the row's 7 10 8 9, 14, 11. */
+uint8_t patch_step(const int32_t *shots, size_t length, uint64_t *table, size_t words, patch_walk *walk, uint8_t *done);
 
-/* Makes up to so many steps, and works the patch out once for all of them. *done: whether the walk was done before they were all made.
+/* Makes up to so many steps, and works the patch out once for all of them. *done: 1 where the walk was done before they were all made, else 0.
  * Refused: as a step; the steps made before it stand. */
-uint8_t patch_run(const int32_t *shots, size_t length, uint64_t *table, size_t words, patch_walk *walk, size_t steps, bool *done);
+uint8_t patch_run(const int32_t *shots, size_t length, uint64_t *table, size_t words, patch_walk *walk, size_t steps, uint8_t *done);
 
 /* ---- records: big-endian, two bytes that count what follows them, a version byte, 1, and the number n of shots; then
  *      a patch: x and y of each shot, four bytes each, in two's complement;

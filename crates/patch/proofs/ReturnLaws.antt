@@ -10,7 +10,6 @@
 --   row-whole           k words, read as the first row of rows of k words, are those words
 --   row-only            k words, written over k words, are what stands there
 use mathlib.Core.Path.{_≡_, sym, _∙_, ap}
-use mathlib.Core.Bool.{Bool}
 use mathlib.Core.List.{List}
 use Prim.Native.Nat.{ℕ, _+_, _*_, _<_}
 use native.Mathlib.Omega.{arith}
@@ -63,6 +62,6 @@ returned-writing x t e p = let q = returned readWritten x e (ap (λ (g : Writing
 pub returned-landing : {n : ℕ} {a : Answer Reply} (w : Walk) (t : List ℕ) {l : Landing} → n ≡ numberOf a → leaves t (readWalk w) a ≡ l → leftBy n w t ≡ leftOf l
 returned-landing w t e p = ap (λ (n : ℕ). leftBy n w t) e ∙ ap leftOf p
 
-pub returned-step : {n : ℕ} {d : Bool} {a : Answer Reply} (w : Walk) (t : List ℕ) (f : Bool) {l : Landing} → (n ≡ numberOf a) × (d ≡ doneAt f a) → leaves t (readWalk w) a ≡ l
+pub returned-step : {n : ℕ} {d : ℕ} {a : Answer Reply} (w : Walk) (t : List ℕ) (f : ℕ) {l : Landing} → (n ≡ numberOf a) × (d ≡ doneAt f a) → leaves t (readWalk w) a ≡ l
     → (leftBy n w t ≡ leftOf l) × (d ≡ doneAt f (l .answer))
 returned-step w t f e p = (returned-landing w t (e .0) p, e .1 ∙ ap (λ (l : Landing). doneAt f (l .answer)) p)

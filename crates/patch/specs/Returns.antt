@@ -5,14 +5,13 @@
 --   leftAt x a           what stands at a lent place that held x: what the call gives, and x where it is refused
 --   besideAt x a y       the same of what a call gives beside its answer a: y, and x where it is refused
 --   plusAt, minusAt x a  the same of the two sides of a circuit, each at a place of its own
---   doneAt d a           the lent flag, that held d: whether the walk is done, by the answer of a step or run
+--   doneAt d a           the lent flag, that held d: 1 where the walk is done, 0 where a step or run was made
 --   Left                 what a walk's call leaves with its number: the record and the whole table
 --   leftBy, leftOf       the same, from a number and the lent places; from what the walk's definition lands in
 --   startCalled          what a start lands in, from the words of the list
 --
 -- Laws: proofs/Promises. Source: document 01, "Refusal numbers".
 use mathlib.Core.Path.{_≡_}
-use mathlib.Core.Bool.{Bool, true, false}
 use mathlib.Core.List.{List}
 use Prim.Native.Nat.{ℕ}
 use lib.IntN.{ℤ}
@@ -47,10 +46,10 @@ minusAt x (refuses n) = x
 
 -- ---- the walk
 
-abbrev pub doneAt : Bool → Answer Reply → Bool
-doneAt d (gives started) = false
-doneAt d (gives made) = false
-doneAt d (gives done) = true
+abbrev pub doneAt : ℕ → Answer Reply → ℕ
+doneAt d (gives started) = 0
+doneAt d (gives made) = 0
+doneAt d (gives done) = 1
 doneAt d (refuses n) = d
 
 pub record Left : Type 0 where

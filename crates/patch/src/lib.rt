@@ -121,8 +121,8 @@ pub extern "C" fn patch_border(shots: &[i32], count: &mut usize) -> u8
 {
     match shots::border(shots) {
         shots::Counted::Refused(number) => number,
-        shots::Counted::Count(k) => {
-            *count = k;
+        shots::Counted::Count(pairs) => {
+            *count = pairs;
             0
         }
     }
@@ -136,8 +136,8 @@ pub extern "C" fn patch_circuits(shots: &[i32], count: &mut usize) -> u8
 {
     match circuits::count(shots) {
         circuits::Counted::Refused(number) => number,
-        circuits::Counted::Count(k) => {
-            *count = k;
+        circuits::Counted::Count(all) => {
+            *count = all;
             0
         }
     }
@@ -212,12 +212,7 @@ pub extern "C" fn patch_start(
 }
 
 #[no_mangle]
-pub extern "C" fn patch_step(
-    shots: &[i32],
-    table: &mut [u64],
-    walk: &mut Walk,
-    done: &mut bool,
-) -> u8
+pub extern "C" fn patch_step(shots: &[i32], table: &mut [u64], walk: &mut Walk, done: &mut u8) -> u8
     ensures { λ r. ⌜ (leftBy r (now (walk .exit)) (now (table .exit)) ≡ leftOf (stepCallOf (now (shots .entry)) (now (table .entry)) (now (walk .entry)))) × (now (done .exit) ≡ doneAt (now (done .entry)) (stepCallOf (now (shots .entry)) (now (table .entry)) (now (walk .entry)) .answer)) ⌝ }
 {
     let out = walked::step(shots, table, *walk, done);
@@ -231,7 +226,7 @@ pub extern "C" fn patch_run(
     table: &mut [u64],
     walk: &mut Walk,
     b: usize,
-    done: &mut bool,
+    done: &mut u8,
 ) -> u8
     ensures { λ r. ⌜ (leftBy r (now (walk .exit)) (now (table .exit)) ≡ leftOf (runCallOf (now (shots .entry)) (now (table .entry)) (now (walk .entry)) b)) × (now (done .exit) ≡ doneAt (now (done .entry)) (runCallOf (now (shots .entry)) (now (table .entry)) (now (walk .entry)) b .answer)) ⌝ }
 {
@@ -269,8 +264,8 @@ pub extern "C" fn patch_write_patch(shots: &[i32], buffer: &mut [u8], written: &
 {
     match records::write_patch(shots, buffer) {
         Written::Refused(number) => number,
-        Written::Bytes(k) => {
-            *written = k;
+        Written::Bytes(size) => {
+            *written = size;
             0
         }
     }
@@ -300,8 +295,8 @@ pub extern "C" fn patch_write_surface(
 {
     match records::write_surface(shots, rows::row_at(list, 0), buffer) {
         Written::Refused(number) => number,
-        Written::Bytes(k) => {
-            *written = k;
+        Written::Bytes(length) => {
+            *written = length;
             0
         }
     }

@@ -31,23 +31,23 @@ pub fn start(shots: &[i32], list: &[u64; WORDS], table: &mut [u64], walk: Walk) 
 }
 
 // The answer of a step or run as a number; done is said at the lent flag.
-fn told(answer: Stepped, done: &mut bool) -> u8
+fn told(answer: Stepped, done: &mut u8) -> u8
     ensures { λ r. ⌜ (r ≡ numberOf (readStepped answer)) × (now (done .exit) ≡ doneAt (now (done .entry)) (readStepped answer)) ⌝ }
 {
     match answer {
         Stepped::Refused(number) => number,
         Stepped::Made => {
-            *done = false;
+            *done = 0;
             0
         }
         Stepped::Done => {
-            *done = true;
+            *done = 1;
             0
         }
     }
 }
 
-pub fn step(shots: &[i32], table: &mut [u64], walk: Walk, done: &mut bool) -> After
+pub fn step(shots: &[i32], table: &mut [u64], walk: Walk, done: &mut u8) -> After
     ensures { λ r. ⌜ (leftBy (r .number) (r .walk) (now (table .exit)) ≡ leftOf (stepCallOf (now (shots .entry)) (now (table .entry)) walk)) × (now (done .exit) ≡ doneAt (now (done .entry)) (stepCallOf (now (shots .entry)) (now (table .entry)) walk .answer)) ⌝ }
 {
     let out = walks::step_at(shots, table, walk);
@@ -60,7 +60,7 @@ pub fn step(shots: &[i32], table: &mut [u64], walk: Walk, done: &mut bool) -> Af
     }
 }
 
-pub fn run(shots: &[i32], table: &mut [u64], walk: Walk, b: usize, done: &mut bool) -> After
+pub fn run(shots: &[i32], table: &mut [u64], walk: Walk, b: usize, done: &mut u8) -> After
     ensures { λ r. ⌜ (leftBy (r .number) (r .walk) (now (table .exit)) ≡ leftOf (runCallOf (now (shots .entry)) (now (table .entry)) walk b)) × (now (done .exit) ≡ doneAt (now (done .entry)) (runCallOf (now (shots .entry)) (now (table .entry)) walk b .answer)) ⌝ }
 {
     let out = walks::run_at(shots, table, walk, b);

@@ -9,7 +9,7 @@ returns : tie.Need-returns
 returns c = returned readCounted _ (c .before .number .given .1) (c .before .before .before .border .ensures)
 
 returns-2 : tie.Need-returns-2
-returns-2 c = returned readCounted _ (c .before .k .given .1) (c .before .before .before .border .ensures)
+returns-2 c = returned readCounted _ (c .before .pairs .given .1) (c .before .before .before .border .ensures)
 
 pub patch-border-spec : {M : Type 1} → statement M
 patch-border-spec = tie.close (tie.spec (λ c κs. search needs) (λ c. search needs) (λ c. search needs) returns returns-2)

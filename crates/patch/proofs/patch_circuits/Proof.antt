@@ -9,7 +9,7 @@ returns : tie.Need-returns
 returns c = returned readCounted _ (c .before .number .given .1) (c .before .before .before .count .ensures)
 
 returns-2 : tie.Need-returns-2
-returns-2 c = returned readCounted _ (c .before .k .given .1) (c .before .before .before .count .ensures)
+returns-2 c = returned readCounted _ (c .before .all .given .1) (c .before .before .before .count .ensures)
 
 pub patch-circuits-spec : {M : Type 1} → statement M
 patch-circuits-spec = tie.close (tie.spec (λ c κs. search needs) (λ c. search needs) (λ c. search needs) returns returns-2)

@@ -3,7 +3,6 @@
 -- flag are given up for good, `gave-slice`, `gave-ref`); the record that it hands back is stored, and the borrow is closed at it. All that is used of `walked::run` is
 -- that it meets its contract.
 use mathlib.Core.Path.{_≡_, refl, ap}
-use mathlib.Core.Bool.{Bool}
 use mathlib.Core.List.{[], _∷_, List}
 use Prim.Native.Nat.{ℕ, _<_, _^_}
 use lib.IntN.{ℤ}
@@ -29,7 +28,7 @@ use denote.RattleType.{owns}
 use denote.Memory.{mem}
 use denote.Laws.{Is, shows}
 use denote.Plain.{uint-vals, uint-tells, uint-makes}
-use denote.Builtin.{i32, u8, u64, bool}
+use denote.Builtin.{i32, u8, u64}
 use denote.Ref.{RefT, MutRef, ptr-vals, mut-tells}
 use denote.Slice.{sliceVal, MutSlice, ShrSlice, Room, finally, slice-vals, mut-slice-tells, shr-slice-tells, shr-slice-copy}
 use denote.Steps.{only, opens, closes, owned, peeks, heard, nothing}
@@ -63,19 +62,19 @@ use Rattle.patch.proofs.patch_run.Statement as stated
 use Rattle.patch.proofs.patch_run.Code as code
 
 abbrev stayed : Stays (self.ended .signature .params) (self.ended .kept)
-stayed = (stay-none-slice (0 ∷ []) tt (plain (λ _. i32)) yes, (gave-slice (1 ∷ []) tt (plain (λ _. u64)), (stay-ref (2 ∷ []) tt (plain (λ _. T.the-row)), (stay-none (λ _. u64) yes, (gave-ref (3 ∷ []) tt (plain (λ _. bool)), tt)))))
+stayed = (stay-none-slice (0 ∷ []) tt (plain (λ _. i32)) yes, (gave-slice (1 ∷ []) tt (plain (λ _. u64)), (stay-ref (2 ∷ []) tt (plain (λ _. T.the-row)), (stay-none (λ _. u64) yes, (gave-ref (3 ∷ []) tt (plain (λ _. u8)), tt)))))
 
 -- the contract that the proof cites
 abbrev Callee : {M : Type 1} (𝓤 : URA M) (H : Heap 𝓤) (A : Atoms 𝓤) (mem : Memory → SProp 𝓤) (run : Routine → Fun 𝓤) → Contract 𝓤
 Callee 𝓤 H A mem run = tripleOf 𝓤 H A callee.signature (callee.spec 𝓤 H A mem run)
 
 module _ {M : Type 1} (𝓤 : URA M) (H : Heap 𝓤) (A : Atoms 𝓤) (W : Given 𝓤 H A) (at-mem : Memory → SProp 𝓤) (run : Routine → Fun 𝓤) (κ₀ κ₁ κ₂ κ₃ : Lft) (q₀ q₁ q₂ q₃ : Share)
-    (x : RefT (List ℤ)) (b₁ o₁ : ℕ) (γ₁ : GName) (ys : List ℕ) (b o : ℕ) (γ : GName) (h : Walk) (d : RefT Bool) (x-room : Room i32 (length (x .now))) (room : Room u64 (length ys))
+    (x : RefT (List ℤ)) (b₁ o₁ : ℕ) (γ₁ : GName) (ys : List ℕ) (b o : ℕ) (γ : GName) (h : Walk) (d : RefT ℕ) (x-room : Room i32 (length (x .now))) (room : Room u64 (length ys))
     (most : ℕ) (most-fits : most < 2 ^ 64) where
   abbrev y : RefT (List ℕ)
   y = record { ptr = (b₁, o₁); name = γ₁; now = ys }
 
-  abbrev a : RefT (List ℤ) × (RefT (List ℕ) × (RefT Walk × (ℕ × (RefT Bool × Unit {0}))))
+  abbrev a : RefT (List ℤ) × (RefT (List ℕ) × (RefT Walk × (ℕ × (RefT ℕ × Unit {0}))))
   a = (x, (y, (record { ptr = (b, o); name = γ; now = h }, (most, (d, tt)))))
 
   abbrev s₀ : Val
@@ -103,25 +102,25 @@ module _ {M : Type 1} (𝓤 : URA M) (H : Heap 𝓤) (A : Atoms 𝓤) (W : Given
   Ys = MutSlice (named 1) κ₁ u64 .own y (s₁ ∷ [])
 
   abbrev Ds : Fml
-  Ds = MutRef (named 3) κ₃ bool .own d (s₃ ∷ [])
+  Ds = MutRef (named 3) κ₃ u8 .own d (s₃ ∷ [])
 
   -- what the callee's triple binds outside: the slices and the flag as they came, and the record
-  abbrev passed : RefT (List ℤ) × (RefT (List ℕ) × (Walk × (ℕ × (RefT Bool × Unit {0}))))
+  abbrev passed : RefT (List ℤ) × (RefT (List ℕ) × (Walk × (ℕ × (RefT ℕ × Unit {0}))))
   passed = (x, (y, (h, (most, (d, tt)))))
 
   abbrev to : Callee 𝓤 H A at-mem run .Ghost
   to = (((κ₀, (κ₁, (κ₃, tt))), (q₀, (q₁, (q₃, tt))), tt, passed, (s₀ ∷ [], (s₁ ∷ [], (machW h ∷ [], (vint w64 most ∷ [], (s₃ ∷ [], tt)))))), tt)
 
   -- what the callee ensures, and what is ensured here, at the last table and flag
-  abbrev Ensures : After → List ℕ → Bool → Type 0
+  abbrev Ensures : After → List ℕ → ℕ → Type 0
   Ensures r zs f = (leftBy (r .number) (r .walk) zs ≡ leftOf (runCallOf (x .now) ys h most)) × (f ≡ doneAt (d .now) (runCallOf (x .now) ys h most .answer))
 
   -- what goes to the callee, and what is had at the end
   abbrev sent : List (Item 𝓤)
   sent = ‵ (flft κ₀ q₀) ∷ ‵ (flft κ₁ q₁) ∷ ‵ (flft κ₃ q₃) ∷ ‵ Xs ∷ ‵ Ys ∷ ‵ Ds ∷ []
 
-  abbrev had : After → List ℕ → Bool → List (Item 𝓤)
-  had r zs f = ‵ (fobs γ (T.the-row .coded .code (r .walk))) ∷ ‵ (fbor κ₂ (Body (mem T.the-row) b o γ)) ∷ ‵ (flft κ₂ q₂) ∷ (‵ (flft κ₀ q₀) ⊛ ‵ (flft κ₁ q₁) ⊛ ‵ (flft κ₃ q₃) ⊛ ‵ ftrue) ∷ ‵ (finally u64 γ₁ zs) ∷ ‵ (fres (d .name) (bool .coded .code f)) ∷ ‵ Xs ∷ []
+  abbrev had : After → List ℕ → ℕ → List (Item 𝓤)
+  had r zs f = ‵ (fobs γ (T.the-row .coded .code (r .walk))) ∷ ‵ (fbor κ₂ (Body (mem T.the-row) b o γ)) ∷ ‵ (flft κ₂ q₂) ∷ (‵ (flft κ₀ q₀) ⊛ ‵ (flft κ₁ q₁) ⊛ ‵ (flft κ₃ q₃) ⊛ ‵ ftrue) ∷ ‵ (finally u64 γ₁ zs) ∷ ‵ (fres (d .name) (u8 .coded .code f)) ∷ ‵ Xs ∷ []
 
   goes : Is T.the-row h (machW h ∷ []) → ent 𝓤 (⋆ 𝓤 H A sent) (Callee 𝓤 H A at-mem run .pre to)
   goes g =
@@ -129,7 +128,7 @@ module _ {M : Type 1} (𝓤 : URA M) (H : Heap 𝓤) (A : Atoms 𝓤) (W : Given
       nothing ! $ move ! (4 ∷ 0 ∷ []) $ fjoin ! $ owned ! u64 (Is u64) (uint-makes 𝓤 H A W w64) most _ (refl, most-fits) $ fjoin ! $ owned ! T.the-row (Is T.the-row) (LL.makes T.the-type T′.the-plain 𝓤 H A) h _ g $ fjoin ! $
       move ! (3 ∷ 0 ∷ []) $ fjoin ! $ move ! (2 ∷ 0 ∷ []) $ fjoin ! $ move ! (1 ∷ 0 ∷ []) $ join ! $ frame ! $ done !
 
-  exits : (r : After) (zs : List ℕ) (f : Bool) → Ensures r zs f → length zs ≡ length ys → r .number < 2 ^ 8 → ent 𝓤 (⋆ 𝓤 H A (had r zs f)) (Post (vint w8 (r .number)))
+  exits : (r : After) (zs : List ℕ) (f : ℕ) → Ensures r zs f → length zs ≡ length ys → r .number < 2 ^ 8 → ent 𝓤 (⋆ 𝓤 H A (had r zs f)) (Post (vint w8 (r .number)))
   exits r zs f e l g =
       qed W (had r zs f) ∵
       suffices ! _ (ends-at 𝓤 H A self.ended stayed (self.clauses 𝓤 H A at-mem run) W bound (vint w8 (r .number)) (r .number) (tt, (zs, (r .walk, (tt, (f, tt))))) (tt, (l, (tt, (tt, (tt, tt)))))) $ says ! e $
@@ -140,7 +139,7 @@ module _ {M : Type 1} (𝓤 : URA M) (H : Heap 𝓤) (A : Atoms 𝓤) (W : Given
   module _ (C : Calls 𝓤 H) (Λ : Loops 𝓤 H) (fm : FmC 𝓤 H (W .laws) C) (known : Triple 𝓤 (C #callee) (Callee 𝓤 H A at-mem run)) where
     walk : ent 𝓤 (onEntry 𝓤 H A self.signature (κ₀, (κ₁, (κ₂, (κ₃, tt)))) (q₀, (q₁, (q₂, (q₃, tt)))) a vals) (WpFn 𝓤 H C Λ code.function (s₀ ∷ s₁ ∷ vptr b o ∷ vint w64 most ∷ s₃ ∷ []) Post)
     walk =
-        qed W ((‵ (flft κ₀ q₀) ⊛ ‵ (flft κ₁ q₁) ⊛ ‵ (flft κ₂ q₂) ⊛ ‵ (flft κ₃ q₃) ⊛ ‵ ftrue) ∷ ‵ (owns (ShrSlice (named 0) κ₀ i32 ∷ MutSlice (named 1) κ₁ u64 ∷ MutRef (named 2) κ₂ T.the-row ∷ u64 ∷ MutRef (named 3) κ₃ bool ∷ []) a vals) ∷ []) ∵
+        qed W ((‵ (flft κ₀ q₀) ⊛ ‵ (flft κ₁ q₁) ⊛ ‵ (flft κ₂ q₂) ⊛ ‵ (flft κ₃ q₃) ⊛ ‵ ftrue) ∷ ‵ (owns (ShrSlice (named 0) κ₀ i32 ∷ MutSlice (named 1) κ₁ u64 ∷ MutRef (named 2) κ₂ T.the-row ∷ u64 ∷ MutRef (named 3) κ₃ u8 ∷ []) a vals) ∷ []) ∵
         enter ! C Λ code.function (s₀ ∷ s₁ ∷ vptr b o ∷ vint w64 most ∷ s₃ ∷ []) _ $
         alloc1 ! (λ l₀. alloc1 ! (λ l₁. alloc1 ! (λ l₂. alloc1 ! (λ l₃. alloc1 ! (λ l₄. alloc1 ! (λ l₅. alloc1 ! (λ l₆. alloc1 ! (λ l₇. alloc1 ! (λ l₈. alloc1 ! (λ l₉. alloc1 ! (λ l₁₀. alloc0 ! $ params1 ! $
         pass1 ! (init ! 18 refl (tt, (tt, (record { fits = x-room .0 }, tt)))) $ pass1 ! (init ! 16 refl (tt, (tt, (record { fits = room .0 }, tt)))) $
@@ -167,7 +166,7 @@ module _ {M : Type 1} (𝓤 : URA M) (H : Heap 𝓤) (A : Atoms 𝓤) (W : Given
         await ! tt $ pick ! (λ r.
         -- what it ensures, at some last table and flag
         split ! $ move ! (1 ∷ []) $
-        use1 W (some (λ (zs : Unit {0} × (List ℕ × (Unit {0} × (Unit {0} × (Bool × Unit {0}))))). ‵ (lasts callee.ended (κ₀, (κ₁, (κ₃, tt))) passed zs) ⊛ raw (fact 𝓤 (Ensures r (zs .1 .0) (zs .1 .1 .1 .1 .0))))) (id⊢ 𝓤 _) $ pick ! (λ zs.
+        use1 W (some (λ (zs : Unit {0} × (List ℕ × (Unit {0} × (Unit {0} × (ℕ × Unit {0}))))). ‵ (lasts callee.ended (κ₀, (κ₁, (κ₃, tt))) passed zs) ⊛ raw (fact 𝓤 (Ensures r (zs .1 .0) (zs .1 .1 .1 .1 .0))))) (id⊢ 𝓤 _) $ pick ! (λ zs.
         split ! $ move ! (1 ∷ []) $ heard ! (Ensures r (zs .1 .0) (zs .1 .1 .1 .1 .0)) (λ e. fsplit ! $ drop ! $ fsplit ! $ fsplit ! $ move ! (1 ∷ []) $ feqL ! (λ l.
         move ! (1 ∷ []) $ fsplit ! $ drop ! $ fsplit ! $ drop ! $ fsplit ! $
         move ! (3 ∷ []) $ split ! $ move ! (1 ∷ []) $ peeks ! S.the-row (Is S.the-row) (shows 𝓤 H A S.the-row) r (w ∷ []) (λ is.
@@ -189,7 +188,7 @@ module _ {M : Type 1} (𝓤 : URA M) (H : Heap 𝓤) (A : Atoms 𝓤) (W : Given
   self-walks : (C : Calls 𝓤 H) (Λ : Loops 𝓤 H) → FmC 𝓤 H (W .laws) C → Triple 𝓤 (C #callee) (Callee 𝓤 H A mem run) → Walks 𝓤 H A self.ended stayed (WpFn 𝓤 H C Λ code.function) (self.clauses 𝓤 H A mem run)
   self-walks C Λ fm known =
       walked 𝓤 H A self.ended stayed (self.clauses 𝓤 H A mem run) (WpFn 𝓤 H C Λ code.function) (λ κs. (slice-vals, (slice-vals, (ptr-vals, (uint-vals w64, (ptr-vals, tt))))))
-      (λ κs. (shr-slice-tells (named 0) (κs .0) i32, (mut-slice-tells (named 1) (κs .1 .0) u64, (mut-tells (named 2) (κs .1 .1 .0) T.the-row, (uint-tells w64, (mut-tells (named 3) (κs .1 .1 .1 .0) bool, tt))))))
+      (λ κs. (shr-slice-tells (named 0) (κs .0) i32, (mut-slice-tells (named 1) (κs .1 .0) u64, (mut-tells (named 2) (κs .1 .1 .0) T.the-row, (uint-tells w64, (mut-tells (named 3) (κs .1 .1 .1 .0) u8, tt))))))
       (λ κs qs bounds a _ are. via 𝓤 _ (fst∗ 𝓤 _ (emp 𝓤))
       (walk 𝓤 H A W mem run (κs .0) (κs .1 .0) (κs .1 .1 .0) (κs .1 .1 .1 .0) (qs .0) (qs .1 .0) (qs .1 .1 .0) (qs .1 .1 .1 .0) (a .0) (a .1 .0 .ptr .0) (a .1 .0 .ptr .1) (a .1 .0 .name) (a .1 .0 .now)
       (a .1 .1 .0 .ptr .0) (a .1 .1 .0 .ptr .1) (a .1 .1 .0 .name) (a .1 .1 .0 .now) (a .1 .1 .1 .1 .0) (are .0 .0 .1) (are .1 .0 .0 .1) (a .1 .1 .1 .0) (are .1 .1 .1 .0 .1) C Λ fm known))
@@ -198,7 +197,7 @@ self-meets : {M : Type 1} (𝓤 : URA M) (H : Heap 𝓤) (A : Atoms 𝓤) → Gi
     → Meets 𝓤 H A self.signature (WpFn 𝓤 H (𝓣 .C) (𝓣 .Λ) code.function) (self.spec 𝓤 H A mem run)
 self-meets 𝓤 H A W mem run 𝓣 known =
     walk-meets 𝓤 H A self.ended stayed W
-    (goes-none-slice 𝓤 H A W 4 (0 ∷ []) tt (plain (λ _. i32)) yes, (goes-gave-slice 𝓤 H A W 4 1 tt (plain (λ _. u64)), (goes-ref 𝓤 H A W 4 2 tt (plain (λ _. T.the-row)), (goes-none 𝓤 H A W 4 (λ _. u64) yes (λ κs x f. refl), (goes-gave-ref 𝓤 H A W 4 3 tt (plain (λ _. bool)), tt)))))
+    (goes-none-slice 𝓤 H A W 4 (0 ∷ []) tt (plain (λ _. i32)) yes, (goes-gave-slice 𝓤 H A W 4 1 tt (plain (λ _. u64)), (goes-ref 𝓤 H A W 4 2 tt (plain (λ _. T.the-row)), (goes-none 𝓤 H A W 4 (λ _. u64) yes (λ κs x f. refl), (goes-gave-ref 𝓤 H A W 4 3 tt (plain (λ _. u8)), tt)))))
     (self.clauses 𝓤 H A mem run) (WpFn 𝓤 H (𝓣 .C) (𝓣 .Λ) code.function) (WpFn-mono 𝓤 H (W .laws) 𝓣 code.function) (self-walks 𝓤 H A W mem run (𝓣 .C) (𝓣 .Λ) (fmOf 𝓤 H (W .laws) 𝓣) known)
 
 pub patch-run-spec : {M : Type 1} → stated.statement M

@@ -21,7 +21,7 @@ returns : tie.Need-returns
 returns c = returned-writing _ _ (c .before .number .given .1) (answered (c .before .before .before .before .before))
 
 returns-2 : tie.Need-returns-2
-returns-2 c = returned-writing _ _ (c .before .k .given .1) (answered (c .before .before .before .before .before))
+returns-2 c = returned-writing _ _ (c .before .length .given .1) (answered (c .before .before .before .before .before))
 
 pub patch-write-surface-spec : {M : Type 1} → statement M
 patch-write-surface-spec = tie.close (tie.spec (λ c κs. search needs) (λ c κs. search needs) (λ c. search needs) (λ c. search needs) (λ c. search needs) returns (λ c. search needs) returns-2)
