@@ -24,7 +24,7 @@ static const char *in_words(uint8_t refusal)
     case PATCH_VERSION: return "the record has another version";
     case PATCH_FORM: return "a triangle names no shots of this patch, is flat or out of order";
     case PATCH_EMPTY: return "the surface has no triangle";
-    case PATCH_CROSSING: return "two triangles cross or overlap";
+    case PATCH_CROSSING: return "two triangles cross, overlap, or meet in part of an edge";
     case PATCH_OPEN: return "the surface has a hole: an open edge";
     case PATCH_ROOM: return "there is no room";
     case PATCH_CIRCUIT: return "there is no such circuit";

@@ -56,7 +56,7 @@ enum patch_refusal {
     PATCH_VERSION = 6,    /* the version byte is not 1 */
     PATCH_FORM = 7,       /* a number is not a shot, a triple or pair is out of form or order, a triple is flat, a bit is past the last rank, n is unlike the patch's */
     PATCH_EMPTY = 10,     /* the list is empty */
-    PATCH_CROSSING = 8,   /* two triangles cross or overlap */
+    PATCH_CROSSING = 8,   /* two triangles cross, overlap, or meet in part of an edge */
     PATCH_OPEN = 9,       /* an edge is open: one triangle alone has it, and it is not on the border */
     PATCH_ROOM = 11,      /* no room: in a table for a row, in a buffer for a record */
     PATCH_CIRCUIT = 12,   /* there is no circuit of this number */
