@@ -5,7 +5,6 @@ pub mod SumLaws
 pub mod SizeLaws
 pub mod AnswerLaws
 pub mod LoopLaws
-pub mod PicksLaws
 pub mod ListLaws
 pub mod OverLaws
 pub mod SetLaws

@@ -1,15 +1,21 @@
--- Places in a list, and lists whose members are apart.
+-- Places in a list, a member and the others, and lists whose members are apart.
 --
 --   getD-mem, mem-getD    what stands at a place is in the list, and what is in the list stands at a place
+--   some-member           a member with a property, or none has it
+--   each-cons, neither    what each member of a list has, and what is no member of it, from its head on
+--   Split a xs            xs as what stands before a, a itself, and what stands behind it; `split`: a member splits its list
+--   middle, around        what is in the list is a or one of the others; the others are in the list
 --   Apart R xs            an earlier and a later member of xs are always related by R
 --   apart-append, apart-at, apart-more    joined lists; the members at two places; related by more
 --   Other x y             x and y are different; `apart-map`: the members of a mapped list are
+--   apart-middle          where all members are different, none stands a second time among the others
 --   kept f xs             those of xs that pass f
 --   kept-in, kept-out, kept-apart    what is in it; its members are different where those of xs are
-use mathlib.Core.Path.{_≡_, refl, sym, _∙_, ap}
+use mathlib.Core.Path.{_≡_, refl, sym, _∙_, ap, subst}
 use mathlib.Core.Logic.{_⊎_, inl, inr, ⊎-elim}
 use mathlib.Core.Bool.{Bool, true, false, cond, false≢true}
 use mathlib.Core.List.{List, [], _∷_, _++_, map, List·Memᴰ, List·Memᴰ·head, List·Memᴰ·tail, List·Memᴰ·cases-cons, List·Memᴰ·append-cases, List·Memᴰ·not-nil, Memᴰ·of-map}
+use mathlib.Core.List.{Memᴰ·append-left, Memᴰ·append-right}
 use Prim.Native.Nat.{ℕ, zero, suc, _<_}
 use native.Mathlib.Omega.{arith}
 use native.Mathlib.Nat.{not-suc-le-zero}
@@ -31,6 +37,42 @@ module _ {A : Type 0} where
         where
           up : {i : ℕ} → i < length xs → suc i < length (x ∷ xs)
           up h = omega arith
+
+  pub some-member : (C : A → Type 0) → ((a : A) → Dec (C a)) → (xs : List A) → ((a : A) × List·Memᴰ a xs × C a) ⊎ ((a : A) → List·Memᴰ a xs → C a → ⊥)
+  some-member C d [] = inr (λ a m c. List·Memᴰ·not-nil m)
+  some-member C d (x ∷ xs) = go (d x) (some-member C d xs)
+    where
+      go : Dec (C x) → ((a : A) × List·Memᴰ a xs × C a) ⊎ ((a : A) → List·Memᴰ a xs → C a → ⊥) → ((a : A) × List·Memᴰ a (x ∷ xs) × C a) ⊎ ((a : A) → List·Memᴰ a (x ∷ xs) → C a → ⊥)
+      go (yes c) r = inl (x, List·Memᴰ·head refl, c)
+      go (no c) (inl (a, m, k)) = inl (a, List·Memᴰ·tail m, k)
+      go (no c) (inr none) = inr (λ a m k. ⊎-elim (λ (e : a ≡ x). c (subst C e k)) (λ h. none a h k) (List·Memᴰ·cases-cons m))
+
+  pub each-cons : (Q : A → Type 0) {a : A} {xs : List A} → Q a → ((b : A) → List·Memᴰ b xs → Q b) → (b : A) → List·Memᴰ b (a ∷ xs) → Q b
+  each-cons Q q h b m = ⊎-elim (λ e. subst Q (sym e) q) (h b) (List·Memᴰ·cases-cons m)
+
+  pub neither : {a b : A} {xs : List A} → (b ≡ a → ⊥) → (List·Memᴰ b xs → ⊥) → List·Memᴰ b (a ∷ xs) → ⊥
+  neither h k m = ⊎-elim h k (List·Memᴰ·cases-cons m)
+
+  -- ---- a member and the others
+
+  pub record Split (a : A) (xs : List A) : Type 0 where
+    pub front : List A
+    pub back : List A
+    pub is : xs ≡ front ++ a ∷ back
+
+  pub split : (a : A) (xs : List A) → List·Memᴰ a xs → Split a xs
+  split a [] m = absurd (List·Memᴰ·not-nil m)
+  split a (x ∷ xs) m =
+      ⊎-elim (λ (e : a ≡ x). record { front = []; back = xs; is = ap (λ (y : A). y ∷ xs) (sym e) })
+      (λ k. let r = split a xs k in record { front = x ∷ r .front; back = r .back; is = ap (λ (ys : List A). x ∷ ys) (r .is) }) (List·Memᴰ·cases-cons m)
+
+  pub middle : {a b : A} (p q : List A) → List·Memᴰ b (p ++ a ∷ q) → (b ≡ a) ⊎ List·Memᴰ b (p ++ q)
+  middle p q m = ⊎-elim (λ k. inr (Memᴰ·append-left q k)) (λ k. ⊎-elim inl (λ h. inr (Memᴰ·append-right p h)) (List·Memᴰ·cases-cons k)) (List·Memᴰ·append-cases p m)
+
+  pub around : {b : A} (a : A) (p q : List A) → List·Memᴰ b (p ++ q) → List·Memᴰ b (p ++ a ∷ q)
+  around a p q m = ⊎-elim (Memᴰ·append-left (a ∷ q)) (λ k. Memᴰ·append-right p (List·Memᴰ·tail k)) (List·Memᴰ·append-cases p m)
+
+  -- ---- members apart
 
   module _ (R : A → A → Type 0) where
     abbrev pub Apart : List A → Type 0
@@ -61,6 +103,10 @@ pub apart-map : {A B : Type 0} (f : A → B) (xs : List A) → Apart Other xs �
 apart-map f [] p h = tt
 apart-map f (x ∷ xs) p h =
     (λ v m e. let (y, k, q) = Memᴰ·of-map f xs m in p .0 y k (h x y (List·Memᴰ·head refl) (List·Memᴰ·tail k) (e ∙ sym q)), apart-map f xs (p .1) (λ y z m k. h y z (List·Memᴰ·tail m) (List·Memᴰ·tail k)))
+
+pub apart-middle : {A : Type 0} (p : List A) (a : A) (q : List A) → Apart Other (p ++ a ∷ q) → List·Memᴰ a (p ++ q) → ⊥
+apart-middle [] a q h m = h .0 a m refl
+apart-middle (x ∷ p) a q h m = ⊎-elim (λ e. h .0 a (Memᴰ·append-right p (List·Memᴰ·head refl)) (sym e)) (apart-middle p a q (h .1)) (List·Memᴰ·cases-cons m)
 
 -- those of a list that pass a test
 abbrev pub kept : {A : Type 0} → (A → Bool) → List A → List A

@@ -9,6 +9,8 @@
 --   tally-same, tally-add, tally-zero        sums of functions that agree, of two functions, of none
 --   tally-single, tally-below                a sum with a term at one place only; a bound for each term
 --   length-tabulate, getD-tabulate           how long a table is, and what stands at a place of it
+--   tabulate-in, tabulate-out                what is in it; `tabulate-apart`: its members are different where the function's values are
+--   tabulate-first                           its first member and the others
 --   tabulate-same                            tables of functions that agree below the bound
 --   fill-none, fill-more, fill-end           a loop that fills an array with a table, from l₀ on
 --   any-some, any-no, every-at               one that passes; a number where none passes, where each does
@@ -20,11 +22,13 @@
 --   every-not                                none passes where every one does not
 --   reflects-anyOf, anyOf-map                `anyOf` decides that some member of a list has the property; over a mapped list
 --   sum-map, sum-append, sum-same            `sumOf` over a mapped list, over two lists joined, of functions that agree on the list
+--   sum-picks                                `sumOf` over the numbers that pass is a `tally`
 --   first-passes, first-least                what `first` finds
 use mathlib.Core.Path.{_≡_, refl, sym, _∙_, ap, subst}
 use mathlib.Core.Bool.{Bool, true, false, cond, not, _||_, _&&_, true≢false, or-false, or-assoc}
 use mathlib.Core.Logic.{_⊎_, inl, inr, ⊎-elim}
 use mathlib.Core.List.{List, [], _∷_, _++_, map, append-assoc, append-nil, List·Memᴰ, List·Memᴰ·head, List·Memᴰ·tail, List·Memᴰ·cases-cons, List·Memᴰ·not-nil}
+use mathlib.Core.List.{List·Memᴰ·append-cases, List·Memᴰ·eq-of-singleton, Memᴰ·append-left, Memᴰ·append-right}
 use Prim.Native.Nat.{ℕ, zero, suc, _+_, _*_, _<_, _≤_}
 use native.Mathlib.Omega.{arith}
 use native.Mathlib.Numerals.{add-one}
@@ -35,7 +39,8 @@ use lib.ListN.{length, getD, drop, set, length-append, drop-of-length-le, List·
 use lib.Seq.{drop-cons, set-at, getD-at}
 use borrow.Author.Tests.{lt-ltb, le-ltb, eqb-true, eqb-false}
 use Rattle.algebra.specs.Answer.{Reflects, holds, fails}
-use Rattle.algebra.specs.Loops.{any, every, anyOf, first, fold, tally, sumOf, tabulate}
+use Rattle.algebra.specs.Loops.{any, every, anyOf, first, fold, tally, sumOf, picks, tabulate}
+use Rattle.algebra.proofs.ListLaws.{Apart, Other, apart-append}
 use Rattle.algebra.proofs.AnswerLaws.{reflects-by, reflects-yes, reflects-no, reflects-true, reflects-iff, reflects-not, reflects-or, reflects-and, reflects-eqb}
 
 -- below suc n: below n, or n itself
@@ -242,6 +247,15 @@ pub sum-same : {A : Type 0} (f g : A → ℕ) (xs : List A) → ((x : A) → Lis
 sum-same f g [] h = refl
 sum-same f g (x ∷ xs) h = rw (h x (List·Memᴰ·head refl), sum-same f g xs (λ y m. h y (List·Memᴰ·tail m))) refl
 
+pub sum-picks : (g : ℕ → ℕ) (f : ℕ → Bool) (n : ℕ) → sumOf g (picks n f) ≡ tally n (λ i. cond (f i) (g i) 0)
+unfolding picks tally
+sum-picks g f zero = refl
+sum-picks g f (suc n) = sum-append g (picks n f) (cond (f n) (n ∷ []) []) ∙ (λ k. sum-picks g f n k + one (f n) k)
+  where
+    one : (b : Bool) → sumOf g (cond b (n ∷ []) []) ≡ cond b (g n) 0
+    one true = omega arith
+    one false = refl
+
 -- ---- first
 
 module _ (f : ℕ → Bool) where
@@ -381,6 +395,24 @@ module _ {A : Type 0} (f : ℕ → A) where
       (λ e. getD-at (tabulate n f) (f n) [] d i (length-tabulate n ∙ sym e) ∙ ap f (sym e))
       (last i n h)
 
+  pub tabulate-in : (n i : ℕ) → i < n → List·Memᴰ (f i) (tabulate n f)
+  unfolding tabulate
+  tabulate-in zero i h = absurd (not-suc-le-zero h)
+  tabulate-in (suc n) i h = ⊎-elim (λ k. Memᴰ·append-left (f n ∷ []) (tabulate-in n i k)) (λ e. Memᴰ·append-right (tabulate n f) (List·Memᴰ·head (ap f e))) (last i n h)
+
+  pub tabulate-out : (n : ℕ) {a : A} → List·Memᴰ a (tabulate n f) → (i : ℕ) × (i < n) × (a ≡ f i)
+  unfolding tabulate
+  tabulate-out zero m = absurd (List·Memᴰ·not-nil m)
+  tabulate-out (suc n) m =
+      ⊎-elim (λ k. let (i, l, e) = tabulate-out n k in (i, omega arith, e)) (λ k. (n, omega arith, List·Memᴰ·eq-of-singleton k)) (List·Memᴰ·append-cases (tabulate n f) m)
+
+  pub tabulate-apart : ((i j : ℕ) → i < j → f i ≡ f j → ⊥) → (n : ℕ) → Apart Other (tabulate n f)
+  unfolding tabulate
+  tabulate-apart h zero = tt
+  tabulate-apart h (suc n) =
+      apart-append Other (tabulate n f) (f n ∷ []) (tabulate-apart h n) (λ y m. absurd (List·Memᴰ·not-nil m), tt)
+      (λ x y m k e. let (i, l, q) = tabulate-out n m in h i n l (sym q ∙ e ∙ List·Memᴰ·eq-of-singleton k))
+
   pub tabulate-same : (g : ℕ → A) (n : ℕ) → ((i : ℕ) → i < n → f i ≡ g i) → tabulate n f ≡ tabulate n g
   unfolding tabulate
   tabulate-same g zero h = refl
@@ -398,3 +430,8 @@ module _ {A : Type 0} (f : ℕ → A) where
 
   pub fill-end : (l₀ : List A) (n m : ℕ) {l : List A} → length l₀ ≡ m → n ≤ m → m ≤ n → l ≡ tabulate n f ++ drop n l₀ → l ≡ tabulate m f
   fill-end l₀ n m {l} e h k p = at-end (λ x. tabulate x f) n m h k (p ∙ rw (drop-of-length-le l₀ {i = n} (omega arith)) (append-nil (tabulate n f)))
+
+pub tabulate-first : {A : Type 0} (f : ℕ → A) (n : ℕ) → tabulate (suc n) f ≡ f 0 ∷ tabulate n (λ i. f (suc i))
+unfolding tabulate
+tabulate-first f zero = refl
+tabulate-first {A} f (suc n) = ap (λ (xs : List A). xs ++ f (suc n) ∷ []) (tabulate-first f n)

@@ -8,6 +8,7 @@
 --   nest-length        parts that are no longer make a list that is no longer
 --   picks-on           the numbers below n that are in an increasing list are that list
 --   picks-same         tests that agree below n pick the same numbers
+--   sum-within         a sum over an increasing list, as one over all numbers below n
 use mathlib.Core.Path.{_≡_, refl, sym, _∙_, ap, subst}
 use mathlib.Core.Logic.{inl, inr}
 use mathlib.Core.Bool.{Bool, false, cond}
@@ -17,10 +18,11 @@ use native.Mathlib.Omega.{arith}
 use native.Mathlib.Decide.{ℕ-discrete}
 use lib.ListN.{length}
 use borrow.Author.Tests.{eq-eqb, ne-eqb}
-use Rattle.algebra.specs.Loops.{picks, run}
+use Rattle.algebra.specs.Loops.{picks, run, tally, sumOf}
 use Rattle.algebra.specs.Sets.{isOn, Within, Lex, nest}
 use Rattle.algebra.proofs.ListLaws.{Apart}
 use Rattle.algebra.proofs.OverLaws.{over-in, over-out, over-apart, over-length}
+use Rattle.algebra.proofs.LoopLaws.{sum-picks}
 
 -- ---- increasing lists
 
@@ -135,3 +137,6 @@ picks-on s n w = picks-run (λ i. isOn i s) n ∙ run-on 0 n s (within-cast s re
 
 pub picks-same : (f g : ℕ → Bool) (n : ℕ) → ((i : ℕ) → i < n → f i ≡ g i) → picks n f ≡ picks n g
 picks-same f g n h = picks-run f n ∙ run-same f g 0 n (λ i l u. h i (omega arith)) ∙ sym (picks-run g n)
+
+pub sum-within : (g : ℕ → ℕ) (s : List ℕ) (n : ℕ) → Within 0 s n → sumOf g s ≡ tally n (λ i. cond (isOn i s) (g i) 0)
+sum-within g s n w = ap (sumOf g) (sym (picks-on s n w)) ∙ sum-picks g (λ i. isOn i s) n

@@ -2,7 +2,8 @@
 --
 --   reflects-on, reflects-same, reflects-all-on    the tests `isOn`, `sameList` and `allOn` decide what they say
 --   same-places                                    the test `sameList`, place by place
---   mem-on                                         the members of a list are the numbers that are on it
+--   on-head, on-tail, on-cases, on-none            what is on a list, from its head on
+--   mem-on, dec-mem                                the members of a list are the numbers that are on it; so it can be told which they are
 --   isOn-picks, picks-within                       the numbers that pass a test, as a set
 --   on-low, numbers-apart                          the numbers of a list are within its bounds, and they are different
 --   set-same                                       increasing lists with the same numbers are the same
@@ -39,7 +40,7 @@ pub reflects-on : (i : ℕ) (s : List ℕ) → Reflects (On s i) (isOn i s)
 reflects-on i s = reflects-test (isOn i s)
 
 -- the first, or one of the rest
-on-cases : {X : Type 0} (i j : ℕ) (s : List ℕ) → On (j ∷ s) i → (i ≡ j → X) → (On s i → X) → X
+pub on-cases : {X : Type 0} (i j : ℕ) (s : List ℕ) → On (j ∷ s) i → (i ≡ j → X) → (On s i → X) → X
 unfolding isOn
 on-cases {X} i j s h f g = go (eqb i j) refl
   where
@@ -47,11 +48,11 @@ on-cases {X} i j s h f g = go (eqb i j) refl
     go true e = f (eqb-true i j e)
     go false e = g (rw e at h)
 
-on-head : (i : ℕ) (s : List ℕ) → On (i ∷ s) i
+pub on-head : (i : ℕ) (s : List ℕ) → On (i ∷ s) i
 unfolding isOn
 on-head i s = rw (eq-eqb i i refl) refl
 
-on-tail : (i j : ℕ) (s : List ℕ) → On s i → On (j ∷ s) i
+pub on-tail : (i j : ℕ) (s : List ℕ) → On s i → On (j ∷ s) i
 unfolding isOn
 on-tail i j s h = go (eqb i j)
   where
@@ -59,7 +60,7 @@ on-tail i j s h = go (eqb i j)
     go true = refl
     go false = h
 
-on-none : (i : ℕ) → On [] i → ⊥
+pub on-none : (i : ℕ) → On [] i → ⊥
 unfolding isOn
 on-none i h = false≢true h
 
@@ -70,6 +71,13 @@ mem-on i (j ∷ s) = (
   λ m. ⊎-elim (λ e. subst (On (j ∷ s)) (sym e) (on-head j s)) (λ n. on-tail i j s (mem-on i s .0 n)) (List·Memᴰ·cases-cons m),
   λ o. on-cases i j s o List·Memᴰ·head (λ p. List·Memᴰ·tail (mem-on i s .1 p)),
 )
+
+pub dec-mem : (i : ℕ) (s : List ℕ) → Dec (List·Memᴰ i s)
+dec-mem i s = go (isOn i s) refl
+  where
+    go : (b : Bool) → isOn i s ≡ b → Dec (List·Memᴰ i s)
+    go true e = yes (mem-on i s .1 e)
+    go false e = no (λ m. false≢true (sym e ∙ mem-on i s .0 m))
 
 pub on-low : (s : List ℕ) (a n i : ℕ) → Within a s n → On s i → (a ≤ i) × (i < n)
 on-low [] a n i w h = absurd (on-none i h)

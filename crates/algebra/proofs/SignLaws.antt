@@ -4,14 +4,16 @@
 --   pos-*, nn-*      sums and products; `pos-cast`, `nn-cast` along an equation
 --   pos-zero, neg-nn     the signs exclude one another
 --   mul-zero, zero-mul, both-zero, neg-zero     products, combinations and negatives that are 0
+--   self-neg         a number that is its own negative is 0
 --   *-of-mul         a factor taken away
 --   square-nn, square-pos, squares-zero
 --   signOf-pos, signOf-neg, signOf-zero     the sign as a value, from the statement
 --   pos-signOf, neg-signOf, zero-signOf     and back
+--   scaled-sign      numbers that are the same up to positive factors have the same sign
 --   signOf-opposite, opposite-opposite, nought-opposite     a number and its negative
 --   plus-minus, plus-nought, minus-nought     signs are told apart
 --   other-side, nought-side, sides-differ     the opposite of a side is a side, and another one; nought is none
---   opposite-signed, same-self, same-turned, turned-other, value-nought      the tests of signs
+--   plus-opposite, minus-opposite, opposite-signed, same-self, same-turned, turned-other, value-nought      the tests of signs
 use mathlib.Core.Path.{_≡_, refl, sym, _∙_, ap, ap₂, subst}
 use mathlib.Core.Logic.{inl, inr, ⊎-elim}
 use mathlib.Core.Bool.{true, false, not, true≢false}
@@ -19,7 +21,8 @@ use mathlib.Core.List.{[], _∷_}
 use Prim.Native.Nat.{ℕ, zero, suc, _+_, _*_}
 use native.Mathlib.Omega.{arith}
 use lib.IntN.{ℤ, pos, negsuc, negℤ, _+ℤ_, _*ℤ_, negℤ-negℤ, *ℤ-zero, zero-*ℤ, ℤ-discrete}
-use Rattle.algebra.specs.Sign.{Sign, minus, nought, plus, signOf, opposite, value, isNought, sameSign, eqZ, Pos, NN, Neg, NP, NZ, Tri, below, at-nought, above, Side}
+use Rattle.algebra.specs.Sign.{Sign, minus, nought, plus, signOf, opposite, value, isMinus, isNought, isPlus, sameSign, eqZ, Pos, NN, Neg, NP, NZ, Tri, below, at-nought, above, Side}
+use Rattle.algebra.proofs.IntLaws.{*ℤ-neg-r}
 use Rattle.algebra.proofs.Ring.{cst, var, _⊕_, _⊗_, neg, ring}
 
 pub tri : (z : ℤ) → Tri z
@@ -72,6 +75,11 @@ both-zero a b p q = ap₂ (λ s t. s +ℤ t) (mul-zero a p) (mul-zero b q)
 
 pub neg-zero : (z : ℤ) → negℤ z ≡ pos 0 → z ≡ pos 0
 neg-zero z e = sym (negℤ-negℤ z) ∙ ap negℤ e
+
+pub self-neg : (z : ℤ) → z ≡ negℤ z → z ≡ pos 0
+self-neg (pos zero) e = refl
+self-neg (pos (suc n)) e = let q : _≡_ {A = ℕ} 0 1 = cc in absurd (omega arith)
+self-neg (negsuc n) e = let q : _≡_ {A = ℕ} 0 1 = cc in absurd (omega arith)
 
 -- the three signs exclude one another
 pub pos-zero : {X : Type 0} {a : ℤ} → Pos a → a ≡ pos 0 → X
@@ -248,6 +256,14 @@ zero-signOf z e = go (tri z)
     go (at-nought q) = q
     go (above p) = plus-nought (sym (signOf-pos z p) ∙ e)
 
+pub scaled-sign : {a b : ℤ} (x y : ℤ) → Pos a → Pos b → a *ℤ x ≡ b *ℤ y → signOf x ≡ signOf y
+scaled-sign {a} {b} x y h k e = go (tri x)
+  where
+    go : Tri x → signOf x ≡ signOf y
+    go (below p) = signOf-neg x p ∙ sym (signOf-neg y (pos-of-mul k (pos-cast (*ℤ-neg-r a x ∙ ap negℤ e ∙ sym (*ℤ-neg-r b y)) (pos-mul h p))))
+    go (at-nought z) = signOf-zero x z ∙ sym (signOf-zero y (zero-of-mul (λ q. pos-zero k q) (sym e ∙ mul-zero a z)))
+    go (above p) = signOf-pos x p ∙ sym (signOf-pos y (pos-of-mul k (pos-cast e (pos-mul h p))))
+
 pub signOf-opposite : (z : ℤ) → signOf (negℤ z) ≡ opposite (signOf z)
 unfolding signOf opposite
 signOf-opposite (pos zero) = refl
@@ -265,6 +281,18 @@ unfolding opposite
 nought-opposite s e = ap opposite e
 
 -- ---- tests of signs
+
+pub plus-opposite : (s : Sign) → isPlus (opposite s) ≡ isMinus s
+unfolding opposite
+plus-opposite minus = refl
+plus-opposite nought = refl
+plus-opposite plus = refl
+
+pub minus-opposite : (s : Sign) → isMinus (opposite s) ≡ isPlus s
+unfolding opposite
+minus-opposite minus = refl
+minus-opposite nought = refl
+minus-opposite plus = refl
 
 pub opposite-signed : (s : Sign) → isNought (opposite s) ≡ isNought s
 unfolding opposite

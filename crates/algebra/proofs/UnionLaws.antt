@@ -4,15 +4,14 @@
 --   set-known                   increasing lists with the same numbers are the same
 --   on-either, on-without       what is on a union, and on a list with a number left out
 --   union-apart, union-meets    the union is as long as both lists together where they have no number in common, and shorter where they have
---   union-is, union-none        a union, by its numbers; with a list of none
---   third-first, third-middle, third-last    the union of two numbers and a third, by where the third stands
+--   union-is                    a union, by its numbers; `third-last`: of two numbers and a third behind them
 --   mask-union, bit-union       the masks of two lists with no number in common, summed, are the mask of their union
 --   dropped-length              a list without one of its numbers is one shorter
---   without b s                 s without b, number by number; `dropped-is`: the same list
+--   without b s                 s without b, number by number; `dropped-is`: the same list; `dropped-split`: what stands before b and behind it
 use mathlib.Core.Path.{_≡_, refl, sym, _∙_, ap, subst}
 use mathlib.Core.Logic.{_⊎_, inl, inr, ⊎-elim, _↔_}
 use mathlib.Core.Bool.{Bool, true, false, cond, not, _||_, _&&_, false≢true, or-false, and-true}
-use mathlib.Core.List.{List, [], _∷_, _++_}
+use mathlib.Core.List.{List, [], _∷_, _++_, List·Memᴰ·head, Memᴰ·append-right}
 use Prim.Native.Nat.{ℕ, zero, suc, _+_, _<_}
 use native.Mathlib.Omega.{arith}
 use native.Mathlib.Decide.{ℕ-discrete}
@@ -23,8 +22,9 @@ use Rattle.algebra.specs.Answer.{Reflects}
 use Rattle.algebra.specs.Loops.{picks}
 use Rattle.algebra.specs.Sets.{isOn, On, union, dropped, Within, maskOf, bit}
 use Rattle.algebra.proofs.AnswerLaws.{reflects-yes, reflects-true, reflects-false, reflects-iff, reflects-agree, reflects-not, reflects-or, reflects-and, reflects-ltb, reflects-eqb}
+use Rattle.algebra.proofs.ListLaws.{Split}
 use Rattle.algebra.proofs.SetLaws.{within-early, early-off, picks-on}
-use Rattle.algebra.proofs.SetTests.{reflects-on, isOn-picks, on-low, set-same, on-union, union-within, on-dropped, dropped-within}
+use Rattle.algebra.proofs.SetTests.{reflects-on, mem-on, isOn-picks, on-low, set-same, on-union, union-within, on-dropped, dropped-within}
 use Rattle.algebra.proofs.BitLaws.{bit-mask}
 
 -- ---- one number, two numbers
@@ -116,44 +116,16 @@ pub union-is : (n : ℕ) (s t u : List ℕ) → Within 0 u n → ((i : ℕ) → 
 union-is n s t u w h =
     set-same (union n s t) u n (union-within n s t) w (λ i l. on-union n s t i ∙ ap (λ (b : Bool). b && (isOn i s || isOn i t)) (lt-ltb i n l) ∙ h i)
 
-pub union-none : (n : ℕ) (s : List ℕ) → Within 0 s n → union n s [] ≡ s
+-- two numbers and a third behind them
+pub third-last : (n x y k : ℕ) → x < y → y < k → k < n → union n (x ∷ y ∷ []) (k ∷ []) ≡ x ∷ y ∷ k ∷ []
 unfolding isOn
-union-none n s w = union-is n s [] s w (λ i. or-false (isOn i s))
-
--- two numbers and a third
-module _ (n x y k : ℕ) where
-  pub third-first : k < x → x < y → y < n → union n (x ∷ y ∷ []) (k ∷ []) ≡ k ∷ x ∷ y ∷ []
-  unfolding isOn
-  third-first kx xy yn =
-      union-is n (x ∷ y ∷ []) (k ∷ []) (k ∷ x ∷ y ∷ []) (omega arith, omega arith, (omega arith, omega arith, (omega arith, yn, tt))) (λ i. turned (eqb i x) (eqb i y) (eqb i k))
-    where
-      turned : (a b c : Bool) → ((a || (b || false)) || (c || false)) ≡ (c || (a || (b || false)))
-      turned true b true = refl
-      turned true b false = refl
-      turned false true true = refl
-      turned false true false = refl
-      turned false false c = refl
-
-  pub third-middle : x < k → k < y → y < n → union n (x ∷ y ∷ []) (k ∷ []) ≡ x ∷ k ∷ y ∷ []
-  unfolding isOn
-  third-middle xk ky yn =
-      union-is n (x ∷ y ∷ []) (k ∷ []) (x ∷ k ∷ y ∷ []) (omega arith, omega arith, (omega arith, omega arith, (omega arith, yn, tt))) (λ i. turned (eqb i x) (eqb i y) (eqb i k))
-    where
-      turned : (a b c : Bool) → ((a || (b || false)) || (c || false)) ≡ (a || (c || (b || false)))
-      turned true b c = refl
-      turned false true true = refl
-      turned false true false = refl
-      turned false false c = refl
-
-  pub third-last : x < y → y < k → k < n → union n (x ∷ y ∷ []) (k ∷ []) ≡ x ∷ y ∷ k ∷ []
-  unfolding isOn
-  third-last xy yk kn =
-      union-is n (x ∷ y ∷ []) (k ∷ []) (x ∷ y ∷ k ∷ []) (omega arith, omega arith, (omega arith, omega arith, (omega arith, kn, tt))) (λ i. turned (eqb i x) (eqb i y) (eqb i k))
-    where
-      turned : (a b c : Bool) → ((a || (b || false)) || (c || false)) ≡ (a || (b || (c || false)))
-      turned true b c = refl
-      turned false true c = refl
-      turned false false c = refl
+third-last n x y k xy yk kn =
+    union-is n (x ∷ y ∷ []) (k ∷ []) (x ∷ y ∷ k ∷ []) (omega arith, omega arith, (omega arith, omega arith, (omega arith, kn, tt))) (λ i. turned (eqb i x) (eqb i y) (eqb i k))
+  where
+    turned : (a b c : Bool) → ((a || (b || false)) || (c || false)) ≡ (a || (b || (c || false)))
+    turned true b c = refl
+    turned false true c = refl
+    turned false false c = refl
 
 -- ---- masks
 
@@ -235,3 +207,12 @@ pub dropped-is : (n b : ℕ) (s : List ℕ) → Within 0 s n → dropped n b s �
 dropped-is n b s w =
     set-same (dropped n b s) (without b s) n (dropped-within n b s) (without-within b 0 n s w)
     (λ i l. on-dropped n b s i ∙ ap (λ (t : Bool). t && (isOn i s && not (eqb i b))) (lt-ltb i n l) ∙ sym (isOn-without i b 0 n s w))
+
+pub dropped-split : (n b : ℕ) (s : List ℕ) → Within 0 s n → (r : Split b s) → dropped n b s ≡ r .front ++ r .back
+dropped-split n b s w r = dropped-is n b s w ∙ ap (without b) (r .is) ∙ middle-out 0 (r .front) (r .back) (subst (λ (t : List ℕ). Within 0 t n) (r .is) w)
+  where
+    middle-out : (a : ℕ) (p q : List ℕ) → Within a (p ++ b ∷ q) n → without b (p ++ b ∷ q) ≡ p ++ q
+    middle-out a [] q v = rw (eq-eqb b b refl) refl
+    middle-out a (j ∷ p) q v =
+        rw (ne-eqb j b (λ e. let l = on-low (p ++ b ∷ q) (j + 1) n b (v .2) (mem-on b (p ++ b ∷ q) .0 (Memᴰ·append-right p (List·Memᴰ·head refl))) .0 in omega arith))
+        (ap (λ (t : List ℕ). j ∷ t) (middle-out (j + 1) p q (v .2)))

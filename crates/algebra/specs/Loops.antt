@@ -12,7 +12,7 @@
 --   run f a k      f a ++ f (a + 1) ++ .. , k lists
 --   over f a b     f a ++ f (a + 1) ++ .. ++ f (b - 1)
 --
--- Laws: proofs/LoopLaws (what a loop wants where it begins, goes on and ends), proofs/PicksLaws (place and rank are inverse), proofs/OverLaws.
+-- Laws: proofs/LoopLaws (what a loop wants where it begins, goes on and ends), proofs/OverLaws.
 use mathlib.Core.Bool.{Bool, true, false, cond, _||_, _&&_}
 use mathlib.Core.List.{List, [], _∷_, _++_}
 use Prim.Native.Nat.{ℕ, zero, suc, _+_, _-_}

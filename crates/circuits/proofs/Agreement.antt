@@ -19,14 +19,14 @@ use Rattle.algebra.proofs.SignLaws.{signOf-pos, signOf-neg, signOf-zero, signOf
 use Rattle.algebra.proofs.AnswerLaws.{reflects-yes, reflects-no, reflects-false, reflects-nought}
 use Rattle.algebra.proofs.SetLaws.{lex-same, picks-same}
 use Rattle.algebra.proofs.ListLaws.{getD-mem, mem-getD}
-use Rattle.matroid.specs.Points.{Point, Configuration, turn, dot}
+use Rattle.matroid.specs.Points.{Point, Points, turn, dot}
 use Rattle.matroid.specs.Circuits as published
 use Rattle.matroid.specs.Circuits.{SignVector, Alike, against}
 use Rattle.matroid.proofs.Turns.{dot-pos}
-use Rattle.matroid.proofs.Elementary.{weights3, weights4, Elementary, e3, e4, weights3-off, weights3-a, weights3-b, weights3-c, weights4-off, weights4-a, weights4-b, weights4-c, weights4-d, elementary-circuit}
-use Rattle.matroid.proofs.Conforming.{circuit-alike, circuit-against, circuit-elementary}
+use Rattle.matroid.proofs.Planar.{weights3, weights4, Planar, e3, e4, weights3-off, weights3-a, weights3-b, weights3-c, weights4-off, weights4-a, weights4-b, weights4-c, weights4-d, planar-circuit, circuit-planar}
+use Rattle.matroid.proofs.CircuitLaws.{circuit-alike, circuit-against}
 use Rattle.matroid.proofs.Lines.{middle-of-three}
-use Rattle.shots.specs.Coordinates.{pointOf, areaOf}
+use Rattle.shots.specs.Coordinates.{pointOf, patchOf, areaOf}
 use Rattle.shots.specs.Patch.{countOf, orientOf, betweenOf}
 use Rattle.shots.specs.Tests.{refusalOf}
 use Rattle.shots.proofs.Patch.{patch-distinct, patch-differ}
@@ -53,13 +53,13 @@ before-same s (inl h) = never h
     never h = omega arith
 before-same s (inr h) = lex-same s (h .1)
 
--- ---- a numbered circuit against the elementary dependency of its shots
+-- ---- a numbered circuit against the dependency of its shots
 
 module _ (l : List ℤ) (ok : refusalOf l ≡ 0) where
   abbrev n : ℕ
   n = countOf l
 
-  abbrev P : Configuration
+  abbrev P : Points
   P = pointOf l
 
   -- the signs among the terms, and against that of the first
@@ -100,8 +100,8 @@ module _ (l : List ℤ) (ok : refusalOf l ≡ 0) where
     unfolding orientOf areaOf
     bent-nz a b c h = reflects-no (reflects-nought (turn (P a) (P b) (P c))) h
 
-    four-elementary : NoneOnLine l q → Elementary n P (weights4 P (q .a) (q .b) (q .c) (q .d))
-    four-elementary h =
+    four-planar : NoneOnLine l q → Planar n P (weights4 P (q .a) (q .b) (q .c) (q .d))
+    four-planar h =
         let o = none-of (isNought (orientOf l (q .b) (q .c) (q .d))) (isNought (orientOf l (q .a) (q .c) (q .d))) (isNought (orientOf l (q .a) (q .b) (q .d))) (isNought (orientOf l (q .a) (q .b) (q .c))) h in
         e4 (q .a) (q .b) (q .c) (q .d) (q .ab) (q .bc) (q .cd) (q .dn) (bent-nz _ _ _ (o .0)) (bent-nz _ _ _ (o .1)) (bent-nz _ _ _ (o .2)) (bent-nz _ _ _ (o .3))
 
@@ -121,8 +121,8 @@ module _ (l : List ℤ) (ok : refusalOf l ≡ 0) where
     unfolding orientOf areaOf
     flat-turn h = reflects-yes (reflects-nought (turn A B C)) h
 
-    three-elementary : OnLine l t → Elementary n P (weights3 P (t .a) (t .b) (t .c))
-    three-elementary h = e3 (t .a) (t .b) (t .c) (t .ab) (t .bc) (t .cn) (flat-turn h)
+    three-planar : OnLine l t → Planar n P (weights3 P (t .a) (t .b) (t .c))
+    three-planar h = e3 (t .a) (t .b) (t .c) (t .ab) (t .bc) (t .cn) (flat-turn h)
 
     apart-ab : A ≡ B → ⊥
     apart-ab = patch-differ l ok (t .a) (t .b) (let p = t .ab in let q = t .bc in let r = t .cn in omega arith) (let q = t .bc in let r = t .cn in omega arith) (λ e. let p = t .ab in omega arith)
@@ -193,16 +193,16 @@ module _ (l : List ℤ) (ok : refusalOf l ≡ 0) where
 
   -- a circuit and a dependency of the same shots
   pub record Meets (z : Circuit) (f : ℕ → ℤ) : Type 0 where
-    pub elementary : Elementary n P f
+    pub kind : Planar n P f
     pub same : Same (signIn z) (λ i. signOf (f i))
 
   meets3 : (t : Three n) (h : OnLine l t) → Meets (split (terms3 l (t .a) (t .b) (t .c))) (weights3 P (t .a) (t .b) (t .c))
   unfolding made Y3
-  meets3 t h = record { elementary = three-elementary t h; same = by-first _ (made l (from3 t h)) (Y3 t) (three-same t h) }
+  meets3 t h = record { kind = three-planar t h; same = by-first _ (made l (from3 t h)) (Y3 t) (three-same t h) }
 
   meets4 : (q : Four n) (h : NoneOnLine l q) → Meets (split (terms4 l (q .a) (q .b) (q .c) (q .d))) (weights4 P (q .a) (q .b) (q .c) (q .d))
   unfolding made Y4
-  meets4 q h = record { elementary = four-elementary q h; same = by-first _ (made l (from4 q h)) (Y4 q) (inl (four-same q)) }
+  meets4 q h = record { kind = four-planar q h; same = by-first _ (made l (from4 q h)) (Y4 q) (inl (four-same q)) }
 
   dependency-of : {z : Circuit} → Source l z → (f : ℕ → ℤ) × Meets z f
   dependency-of (from3 t h) = (weights3 P (t .a) (t .b) (t .c), meets3 t h)
@@ -212,7 +212,7 @@ module _ (l : List ℤ) (ok : refusalOf l ≡ 0) where
   unfolding orientOf areaOf
   nz-bent a b c h = reflects-false (reflects-nought (turn (P a) (P b) (P c))) h
 
-  circuit-of : {f : ℕ → ℤ} → Elementary n P f → (z : Circuit) × Source l z × Meets z f
+  circuit-of : {f : ℕ → ℤ} → Planar n P f → (z : Circuit) × Source l z × Meets z f
   unfolding orientOf areaOf
   circuit-of (e3 a b c ab bc cn e) =
       let t : Three n = record { a = a; b = b; c = c; ab = ab; bc = bc; cn = cn } in
@@ -225,17 +225,17 @@ module _ (l : List ℤ) (ok : refusalOf l ≡ 0) where
 
   -- ---- the theorems
 
-  pub circuit-published : (z : ℕ) → z < length (circuitsOf l) → published.Circuit n P (signIn (circuitAt l z))
+  pub circuit-published : (z : ℕ) → z < length (circuitsOf l) → published.Circuit n (patchOf l) (signIn (circuitAt l z))
   circuit-published z h = go (dependency-of (sources l (getD-mem (circuitsOf l) (record { plus = []; minus = [] }) z h)))
     where
-      go : (f : ℕ → ℤ) × Meets (circuitAt l z) f → published.Circuit n P (signIn (circuitAt l z))
+      go : (f : ℕ → ℤ) × Meets (circuitAt l z) f → published.Circuit n (patchOf l) (signIn (circuitAt l z))
       go r = ⊎-elim (λ s. circuit-alike (λ i k. sym (s i)) c) (λ s. circuit-alike (λ i k. sym (s i)) (circuit-against c)) (r .1 .same)
         where
-          c : published.Circuit n P (λ i. signOf (r .0 i))
-          c = elementary-circuit n P (patch-distinct l ok) (r .0) (r .1 .elementary)
+          c : published.Circuit n (patchOf l) (λ i. signOf (r .0 i))
+          c = planar-circuit n P (patch-distinct l ok) (r .0) (r .1 .kind)
 
-  pub published-numbered : (X : SignVector) → published.Circuit n P X → (z : ℕ) × (z < length (circuitsOf l)) × (Alike n X (signIn (circuitAt l z)) ⊎ Alike n X (against (signIn (circuitAt l z))))
-  published-numbered X c = found (circuit-elementary n P (patch-distinct l ok) X c)
+  pub published-numbered : (X : SignVector) → published.Circuit n (patchOf l) X → (z : ℕ) × (z < length (circuitsOf l)) × (Alike n X (signIn (circuitAt l z)) ⊎ Alike n X (against (signIn (circuitAt l z))))
+  published-numbered X c = found (circuit-planar n P (patch-distinct l ok) X c)
     where
       joined : (f : ℕ → ℤ) (y : Circuit) → Same (signIn y) (λ i. signOf (f i)) → Alike n X (λ i. signOf (f i)) ⊎ Alike n X (against (λ i. signOf (f i))) → Alike n X (signIn y) ⊎ Alike n X (against (signIn y))
       joined f y (inl s) (inl x) = inl (λ i k. x i k ∙ sym (s i))
@@ -243,7 +243,7 @@ module _ (l : List ℤ) (ok : refusalOf l ≡ 0) where
       joined f y (inr s) (inl x) = inr (λ i k. x i k ∙ sym (turn-twice (signIn y) (λ j. signOf (f j)) s i))
       joined f y (inr s) (inr x) = inl (λ i k. x i k ∙ sym (s i))
 
-      found : (f : ℕ → ℤ) × Elementary n P f × (Alike n X (λ i. signOf (f i)) ⊎ Alike n X (against (λ i. signOf (f i)))) → (z : ℕ) × (z < length (circuitsOf l)) × (Alike n X (signIn (circuitAt l z)) ⊎ Alike n X (against (signIn (circuitAt l z))))
+      found : (f : ℕ → ℤ) × Planar n P f × (Alike n X (λ i. signOf (f i)) ⊎ Alike n X (against (λ i. signOf (f i)))) → (z : ℕ) × (z < length (circuitsOf l)) × (Alike n X (signIn (circuitAt l z)) ⊎ Alike n X (against (signIn (circuitAt l z))))
       found r =
           let y = circuit-of (r .1) in
           let k = mem-getD (circuitsOf l) (record { plus = []; minus = [] }) (listed l (y .1)) in

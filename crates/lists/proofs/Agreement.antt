@@ -30,10 +30,11 @@ use Rattle.algebra.proofs.ListLaws.{getD-mem}
 use Rattle.algebra.proofs.LoopLaws.{reflects-any, reflects-test}
 use Rattle.algebra.proofs.SetTests.{reflects-on, reflects-all-on, on-low}
 use Rattle.algebra.proofs.SignLaws.{opposite-signed, plus-minus, plus-nought, minus-nought}
-use Rattle.matroid.specs.Points.{Configuration}
+use Rattle.matroid.specs.Configurations.{Configuration, Flat}
 use Rattle.matroid.specs.Circuits.{Alike, against, Crossing}
-use Rattle.matroid.specs.Triangulations.{Edge, Flat, Border, Triangulation}
-use Rattle.shots.specs.Coordinates.{pointOf}
+use Rattle.matroid.specs.Triangulations.{Face, Border, Triangulation}
+use Rattle.matroid.proofs.Edges.{pair-face, face-pair, each-face}
+use Rattle.shots.specs.Coordinates.{pointOf, patchOf}
 use Rattle.shots.specs.Patch.{countOf, orientOf, borderOf}
 use Rattle.shots.specs.Tests.{refusalOf}
 use Rattle.shots.proofs.Orientations.{orient-is-chirotope, border-says}
@@ -125,7 +126,7 @@ module _ (l : List ℤ) (w : List ℕ) where
   n = countOf l
 
   abbrev P : Configuration
-  P = pointOf l
+  P = patchOf l
 
   -- ---- 7, 10
 
@@ -140,11 +141,7 @@ module _ (l : List ℤ) (w : List ℕ) where
   flat-at [] e = absurd (omega arith)
   flat-at (i ∷ []) e = absurd (omega arith)
   flat-at (i ∷ j ∷ []) e = absurd (omega arith)
-  flat-at (i ∷ j ∷ k ∷ []) e = reflects-iff (
-    λ h. (i, j, k, refl, sym (orient-is-chirotope l i j k) ∙ h),
-    λ (a, b, c, q, h). let x : i ≡ a = cc in let y : j ≡ b = cc in let z : k ≡ c = cc in (λ t. orientOf l (x t) (y t) (z t)) ∙ orient-is-chirotope l a b c ∙ h,
-  )
-      (is-nought (orientOf l i j k))
+  flat-at (i ∷ j ∷ k ∷ []) e = reflects-iff (λ h. sym (orient-is-chirotope l i j k) ∙ h, λ h. orient-is-chirotope l i j k ∙ h) (is-nought (orientOf l i j k))
   flat-at (i ∷ j ∷ k ∷ h ∷ s) e = absurd (omega arith)
 
   pub flat-decided : Reflects (FlatTriple l w) (someFlat l w)
@@ -217,7 +214,7 @@ module _ (l : List ℤ) (w : List ℕ) where
 
   -- ---- 9
 
-  border-decided : (i j : ℕ) → Reflects (Border n P i j) (borderOf l i j)
+  border-decided : (i j : ℕ) → Reflects (Border n P (i ∷ j ∷ [])) (borderOf l i j)
   border-decided i j = reflects-iff (
     λ e b. border-says l i j .0 e ((b .0 .0, b .0 .1, orient-is-chirotope l i j (b .0 .0) ∙ b .0 .2), (b .1 .0, b .1 .1, orient-is-chirotope l i j (b .1 .0) ∙ b .1 .2)),
     λ h. border-says l i j .1 (λ b. h ((b .0 .0, b .0 .1, sym (orient-is-chirotope l i j (b .0 .0)) ∙ b .0 .2), (b .1 .0, b .1 .1, sym (orient-is-chirotope l i j (b .1 .0)) ∙ b .1 .2))),
@@ -226,9 +223,9 @@ module _ (l : List ℤ) (w : List ℕ) where
 
   -- some edge i < j of s is no border pair, and no other triple of the list holds it
   abbrev OpenIn : List ℕ → Type 0
-  OpenIn s = (j : ℕ) × (j < n) × ((i : ℕ) × (i < j) × ((On s i × On s j) × ((Border n P i j → ⊥) × (Shared n w s i j → ⊥))))
+  OpenIn s = (j : ℕ) × (j < n) × ((i : ℕ) × (i < j) × ((On s i × On s j) × ((Border n P (i ∷ j ∷ []) → ⊥) × (Shared n w s i j → ⊥))))
 
-  open-at : (r i j : ℕ) → r < tripleCount n → Reflects ((On (tripleAt n r) i × On (tripleAt n r) j) × ((Border n P i j → ⊥) × (Shared n w (tripleAt n r) i j → ⊥))) (openAt l w r i j)
+  open-at : (r i j : ℕ) → r < tripleCount n → Reflects ((On (tripleAt n r) i × On (tripleAt n r) j) × ((Border n P (i ∷ j ∷ []) → ⊥) × (Shared n w (tripleAt n r) i j → ⊥))) (openAt l w r i j)
   unfolding openAt
   open-at r i j h =
       reflects-and (reflects-and (reflects-on i (tripleAt n r)) (reflects-on j (tripleAt n r)))
@@ -236,14 +233,19 @@ module _ (l : List ℤ) (w : List ℕ) where
 
   open-in : (r : ℕ) → r < tripleCount n → Reflects (OpenIn (tripleAt n r)) (any n (λ j. any j (λ i. openAt l w r i j)))
   open-in r h =
-      reflects-any (λ j. (i : ℕ) × (i < j) × ((On (tripleAt n r) i × On (tripleAt n r) j) × ((Border n P i j → ⊥) × (Shared n w (tripleAt n r) i j → ⊥)))) (λ j. any j (λ i. openAt l w r i j)) n
-      (λ j _. reflects-any (λ i. (On (tripleAt n r) i × On (tripleAt n r) j) × ((Border n P i j → ⊥) × (Shared n w (tripleAt n r) i j → ⊥))) (λ i. openAt l w r i j) j (λ i _. open-at r i j h))
+      reflects-any (λ j. (i : ℕ) × (i < j) × ((On (tripleAt n r) i × On (tripleAt n r) j) × ((Border n P (i ∷ j ∷ []) → ⊥) × (Shared n w (tripleAt n r) i j → ⊥)))) (λ j. any j (λ i. openAt l w r i j)) n
+      (λ j _. reflects-any (λ i. (On (tripleAt n r) i × On (tripleAt n r) j) × ((Border n P (i ∷ j ∷ []) → ⊥) × (Shared n w (tripleAt n r) i j → ⊥))) (λ i. openAt l w r i j) j (λ i _. open-at r i j h))
 
   pub open-decided : Reflects (OpenEdge l w) (openEdge l w)
   unfolding openEdge
   open-decided = reflects-iff (
-    λ (s, m, (j, _, (i, h, ((a, b), (c, d))))). (s, i, j, m, (h, a, b), c, λ (t, k, ne, (_, x, y)). d (t, k, (ne, x, y))),
-    λ (s, i, j, m, (h, a, b), c, d). (s, m, (j, on-low s 0 n j (listed-triple n w s m .0) b .1, (i, h, ((a, b), (c, λ (t, k, (ne, x, y)). d (t, k, ne, (h, x, y))))))),
+    λ (s, m, (j, jl, (i, h, ((a, b), (c, d))))). (s, i ∷ j ∷ [], m, pair-face n (pointOf l) s i j h jl a b, c, λ (t, k, ne, f). let (x, y) = face-pair n (pointOf l) t i j f in d (t, k, (ne, x, y))),
+    λ (s, e, m, f, c, d). (
+      s,
+      m,
+      each-face n (pointOf l) (λ u. (Border n P u → ⊥) → ((t : List ℕ) × Listed n w t × (t ≡ s → ⊥) × Face n P u t → ⊥) → OpenIn s) s
+          (λ i j h jl a b c d. (j, jl, (i, h, ((a, b), (c, λ (t, k, (ne, x, y)). d (t, k, ne, pair-face n (pointOf l) t i j h jl x y)))))) e f c d,
+    ),
   )
       (reflects-listed n w OpenIn (λ r. any n (λ j. any j (λ i. openAt l w r i j))) open-in)
 
@@ -258,13 +260,14 @@ module _ (l : List ℤ) (w : List ℕ) where
   some-listed = reflects-stable (listed-decided n w)
 
   -- an edge that is not open
-  closed : (OpenEdge l w → ⊥) → (s : List ℕ) → Listed n w s → (i j : ℕ) → Edge i j s → Border n P i j ⊎ ((t : List ℕ) × Listed n w t × (t ≡ s → ⊥) × Edge i j t)
-  closed none s m i j e = go (border-decided i j) (shared-decided n w (m .0) i j (m .1))
+  closed : (OpenEdge l w → ⊥) → (s : List ℕ) → Listed n w s → (e : List ℕ) → Face n P e s → Border n P e ⊎ ((t : List ℕ) × Listed n w t × (t ≡ s → ⊥) × Face n P e t)
+  closed none s m = each-face n (pointOf l) (λ u. Border n P u ⊎ ((t : List ℕ) × Listed n w t × (t ≡ s → ⊥) × Face n P u t)) s (λ i j h jl a b. go i j h jl a b (border-decided i j) (shared-decided n w (m .0) i j (m .1)))
     where
-      go : {a b : Bool} → Reflects (Border n P i j) a → Reflects (Shared n w (tripleAt n (m .0)) i j) b → Border n P i j ⊎ ((t : List ℕ) × Listed n w t × (t ≡ s → ⊥) × Edge i j t)
-      go (holds h) q = inl h
-      go (fails h) (holds (t, k, (ne, x, y))) = inr (t, k, λ q. ne (q ∙ sym (m .3)), (e .0, x, y))
-      go (fails h) (fails q) = absurd (none (s, i, j, m, e, h, λ (t, k, ne, (_, x, y)). q (t, k, (λ u. ne (u ∙ m .3), x, y))))
+      go : (i j : ℕ) → i < j → j < n → On s i → On s j → {p q : Bool} → Reflects (Border n P (i ∷ j ∷ [])) p → Reflects (Shared n w (tripleAt n (m .0)) i j) q
+          → Border n P (i ∷ j ∷ []) ⊎ ((t : List ℕ) × Listed n w t × (t ≡ s → ⊥) × Face n P (i ∷ j ∷ []) t)
+      go i j h jl a b (holds c) d = inl c
+      go i j h jl a b (fails c) (holds (t, k, (ne, x, y))) = inr (t, k, λ q. ne (q ∙ sym (m .3)), pair-face n (pointOf l) t i j h jl x y)
+      go i j h jl a b (fails c) (fails d) = absurd (none (s, i ∷ j ∷ [], m, pair-face n (pointOf l) s i j h jl a b, c, λ (t, k, ne, f). let (x, y) = face-pair n (pointOf l) t i j f in d (t, k, (λ u. ne (u ∙ m .3), x, y))))
 
   pub accepted-iff-triangulation : Clear (listLines l w) ↔ ((PastLast l w → ⊥) × Triangulation n P (Listed n w))
   accepted-iff-triangulation = (into, out)
@@ -273,9 +276,8 @@ module _ (l : List ℤ) (w : List ℕ) where
       into (seven, (ten, (eight, (nine, _)))) = (
         λ p. seven (inl p),
         record {
-          triples = listed-triple n w;
+          simplices = λ s m. let (v, k) = listed-triple n w s m in record { within = v; size = k; full = λ h. seven (inr (s, m, h)) };
           some = some-listed ten;
-          full = λ s m h. seven (inr (s, m, h));
           ip = λ s t m k c. eight (s, t, m, k, c);
           up = closed nine;
         },
@@ -283,12 +285,12 @@ module _ (l : List ℤ) (w : List ℕ) where
 
       out : (PastLast l w → ⊥) × Triangulation n P (Listed n w) → Clear (listLines l w)
       out (p, g) = (
-        ⊎-elim p (λ (s, m, h). g .full s m h),
+        ⊎-elim p (λ (s, m, h). g .simplices s m .full h),
         (
           λ none. none (g .some),
           (
             λ (s, t, m, k, c). g .ip s t m k c,
-            (λ (s, i, j, m, e, b, o). ⊎-elim b o (g .up s m i j e), tt),
+            (λ (s, e, m, f, b, o). ⊎-elim b o (g .up s m e f), tt),
           ),
         ),
       )

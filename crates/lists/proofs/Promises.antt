@@ -18,7 +18,7 @@ use Rattle.algebra.specs.Answer.{Answer, gives, refuses, First, Clear, Decides}
 use Rattle.algebra.specs.Words.{member}
 use Rattle.algebra.proofs.AnswerLaws.{one-answer, clear-refusal, chain-refuses-upon, chain-gives-upon, clear-append}
 use Rattle.matroid.specs.Triangulations.{Triangulation}
-use Rattle.shots.specs.Coordinates.{pointOf}
+use Rattle.shots.specs.Coordinates.{patchOf}
 use Rattle.shots.specs.Patch.{countOf}
 use Rattle.shots.specs.Tests.{shotRules, refusalOf}
 use Rattle.shots.specs.Lines.{shotLines}
@@ -57,7 +57,7 @@ module _ (l : List ℤ) (w : List ℕ) where
   unfolding testOf
   test-gives v = chain-gives-upon (shotRules l) (listRules l w) (shotLines l) (listLines l w) tt v (shots-decided l) decided
 
-  pub test-accepts : (testOf l w ≡ gives tt) ↔ (Clear (shotLines l) × (PastLast l w → ⊥) × Triangulation (countOf l) (pointOf l) (Listed (countOf l) w))
+  pub test-accepts : (testOf l w ≡ gives tt) ↔ (Clear (shotLines l) × (PastLast l w → ⊥) × Triangulation (countOf l) (patchOf l) (Listed (countOf l) w))
   test-accepts = (
     λ e. let (h, k) = clear .0 (test-gives tt .0 e .0) in let (p, g) = accepted-iff-triangulation l w .0 k in (h, p, g),
     λ (h, p, g). test-gives tt .1 (clear .1 (h, accepted-iff-triangulation l w .1 (p, g)), refl),

@@ -21,8 +21,9 @@ use Rattle.algebra.specs.Answer.{Line}
 use Rattle.algebra.specs.Sets.{On}
 use Rattle.algebra.specs.Words.{wordBits, member}
 use Rattle.matroid.specs.Circuits.{Crossing}
-use Rattle.matroid.specs.Triangulations.{Family, Edge, Flat, Border}
-use Rattle.shots.specs.Coordinates.{pointOf}
+use Rattle.matroid.specs.Configurations.{Flat}
+use Rattle.matroid.specs.Triangulations.{Family, Face, Border}
+use Rattle.shots.specs.Coordinates.{patchOf}
 use Rattle.shots.specs.Patch.{countOf}
 use Rattle.shots.specs.Lines.{shotLines}
 use Rattle.triples.specs.Ranks.{tripleCount, tripleAt}
@@ -34,18 +35,18 @@ abbrev pub PastLast : List ℤ → List ℕ → Type 0
 PastLast l w = (r : ℕ) × (r < wordBits * length w) × (tripleCount (countOf l) ≤ r) × (member w r ≡ true)
 
 abbrev pub FlatTriple : List ℤ → List ℕ → Type 0
-FlatTriple l w = (s : List ℕ) × Listed (countOf l) w s × Flat (pointOf l) s
+FlatTriple l w = (s : List ℕ) × Listed (countOf l) w s × Flat (patchOf l) s
 
 abbrev pub NoTriple : List ℤ → List ℕ → Type 0
 NoTriple l w = (s : List ℕ) × Listed (countOf l) w s → ⊥
 
 abbrev pub Cross : List ℤ → List ℕ → Type 0
-Cross l w = (s : List ℕ) × (t : List ℕ) × Listed (countOf l) w s × Listed (countOf l) w t × Crossing (countOf l) (pointOf l) (On s) (On t)
+Cross l w = (s : List ℕ) × (t : List ℕ) × Listed (countOf l) w s × Listed (countOf l) w t × Crossing (countOf l) (patchOf l) (On s) (On t)
 
 abbrev pub OpenEdge : List ℤ → List ℕ → Type 0
 OpenEdge l w =
-    (s : List ℕ) × (i : ℕ) × (j : ℕ) × Listed (countOf l) w s × Edge i j s × (Border (countOf l) (pointOf l) i j → ⊥)
-    × ((t : List ℕ) × Listed (countOf l) w t × (t ≡ s → ⊥) × Edge i j t → ⊥)
+    (s : List ℕ) × (e : List ℕ) × Listed (countOf l) w s × Face (countOf l) (patchOf l) e s × (Border (countOf l) (patchOf l) e → ⊥)
+    × ((t : List ℕ) × Listed (countOf l) w t × (t ≡ s → ⊥) × Face (countOf l) (patchOf l) e t → ⊥)
 
 abbrev pub listLines : List ℤ → List ℕ → List Line
 listLines l w =

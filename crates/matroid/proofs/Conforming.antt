@@ -1,29 +1,29 @@
--- Every dependency of distinct points has a circuit inside it, sign by sign; so the circuits are the elementary dependencies and their negatives.
+-- Every dependency of points that span their space has a circuit inside it, sign by sign.
 --
 --   Fits u v             u has not the opposite sign of v, and is 0 where v is
 --   mixed a b u v        the combination of u and v whose weights take a and b to 0
---   Signed n P g         g is an elementary dependency or the negative of one
 --   Opposed f g n        of the places where f and g have opposite signs one at which - f / g is least
---   Conforming n P f     a signed g that fits f at every place
+--   Conforming n P f     a part whose signs are a circuit, and that fits f at every place
 --
--- Main theorems: `conformal`, `circuit-inside`, `circuit-alike`, `circuit-elementary`, `circuit-against`.
+-- Main theorem: `circuit-inside`.
 use mathlib.Core.Path.{_≡_, sym, _∙_, ap}
 use mathlib.Core.Logic.{_⊎_, inl, inr}
 use mathlib.Core.List.{[], _∷_}
 use Prim.Native.Nat.{ℕ, zero, suc, _<_}
 use native.Mathlib.Omega.{arith}
 use lib.IntN.{ℤ, pos, negℤ, _+ℤ_, _-ℤ_, _*ℤ_, negℤ-negℤ, *ℤ-comm, ℤ-discrete}
-use Rattle.algebra.specs.Sign.{nought, signOf, opposite, Pos, NN, Neg, NZ, Tri, below, at-nought, above}
+use Rattle.algebra.specs.Sign.{nought, signOf, Pos, NN, Neg, NZ, Tri, below, at-nought, above}
 use Rattle.algebra.proofs.Ring.{Ex, cst, var, _⊕_, _⊝_, _⊗_, neg, ring}
 use Rattle.algebra.proofs.SignLaws.{tri, zero-mul, both-zero, neg-zero, pos-cast, nn-cast, pos-mul, nn-mul, nn-add, pos-nn-add, pos-nn, nn-zero, pos-zero, neg-nn, nn-of-mul}
-use Rattle.algebra.proofs.SignLaws.{square-nn, square-pos, np-of, factor-l, factor-r, dec-pos, signOf-pos, signOf-neg, signOf-zero, signOf-opposite, zero-signOf, nought-opposite}
-use Rattle.matroid.specs.Points.{Configuration, Distinct}
+use Rattle.algebra.proofs.SignLaws.{square-nn, square-pos, np-of, factor-l, factor-r, dec-pos, signOf-pos, signOf-neg, signOf-zero, signOf-opposite}
+use Rattle.matroid.specs.Configurations.{Configuration, Spans}
 use Rattle.matroid.specs.Dependencies.{Dependency, Somewhere}
-use Rattle.matroid.specs.Circuits.{SignVector, Circuit, Alike, against}
+use Rattle.matroid.specs.Circuits.{SignVector, Circuit}
 use Rattle.matroid.proofs.Search.{none-below, Least, least, Min, minimum, cnt, cnt-lt}
-use Rattle.matroid.proofs.Dependent.{dep-lin, dep-neg, somewhere-neg}
-use Rattle.matroid.proofs.Elementary.{Elementary, elementary-dependency, elementary-somewhere, elementary-circuit}
+use Rattle.matroid.proofs.Dependent.{dep-lin}
+use Rattle.matroid.proofs.Bases.{Elementary, elementary-dependency, elementary-circuit}
 use Rattle.matroid.proofs.Inside.{Inside, inside}
+use Rattle.matroid.proofs.CircuitLaws.{circuit-alike, circuit-against}
 
 -- ---- one number fits another
 
@@ -97,52 +97,11 @@ module _ (a b u v : ℤ) (o : Neg (a *ℤ b)) where
           (ring (a ∷ b ∷ u ∷ v ∷ []) (neg (var 2 ⊗ var 3) ⊗ (neg (var 2 ⊗ var 3) ⊗ (var 1 ⊗ var 1) ⊝ neg (var 0 ⊗ var 1) ⊗ (var 3 ⊗ var 3))) ((var 3 ⊗ var 3) ⊗ (M ⊗ var 2)) tt)
           (nn-mul (pos-nn h) (ratio h)))
 
--- ---- circuits
-
-module _ {n : ℕ} {P : Configuration} where
-  -- a circuit is known by its signs below n
-  pub circuit-alike : {X Y : SignVector} → Alike n X Y → Circuit n P X → Circuit n P Y
-  circuit-alike e c = record {
-    by = c .by;
-    dependency = c .dependency;
-    somewhere = c .somewhere;
-    signs = λ i l. sym (e i l) ∙ c .signs i l;
-    smallest = λ g h s off i l z. sym (e i l) ∙ c .smallest g h s (λ m k q. off m k (sym (e m k) ∙ q)) i l z;
-  }
-
-  pub circuit-against : {X : SignVector} → Circuit n P X → Circuit n P (against X)
-  circuit-against {X} c = record {
-    by = λ i. negℤ (c .by i);
-    dependency = dep-neg n P (c .by) (c .dependency);
-    somewhere = somewhere-neg n (c .by) (c .somewhere);
-    signs = λ i l. ap opposite (c .signs i l) ∙ sym (signOf-opposite (c .by i));
-    smallest = λ g h s off i l z. nought-opposite (X i) (c .smallest g h s (λ m k q. off m k (nought-opposite (X m) q)) i l z);
-  }
-
--- ---- elementary dependencies and their negatives
-
-pub data Signed (n : ℕ) (P : Configuration) : (ℕ → ℤ) → Type 0 where
-  as-is : {f : ℕ → ℤ} → Elementary n P f → Signed n P f
-  negated : {f : ℕ → ℤ} → Elementary n P f → Signed n P (λ i. negℤ (f i))
-
-signed-dependency : (n : ℕ) (P : Configuration) (g : ℕ → ℤ) → Signed n P g → Dependency n P g
-signed-dependency n P g (as-is {f} e) = elementary-dependency n P f e
-signed-dependency n P g (negated {f} e) = dep-neg n P f (elementary-dependency n P f e)
-
-module _ (n : ℕ) (P : Configuration) (ds : Distinct n P) where
-  signed-somewhere : (g : ℕ → ℤ) → Signed n P g → Somewhere n g
-  signed-somewhere g (as-is {f} e) = elementary-somewhere n P ds f e
-  signed-somewhere g (negated {f} e) = somewhere-neg n f (elementary-somewhere n P ds f e)
-
-  signed-circuit : (g : ℕ → ℤ) → Signed n P g → Circuit n P (λ i. signOf (g i))
-  signed-circuit g (as-is {f} e) = elementary-circuit n P ds f e
-  signed-circuit g (negated {f} e) = circuit-alike (λ i l. sym (signOf-opposite (f i))) (circuit-against (elementary-circuit n P ds f e))
-
--- ---- one of them inside every dependency
+-- ---- a circuit inside every dependency
 
 pub record Conforming (n : ℕ) (P : Configuration) (f : ℕ → ℤ) : Type 0 where
   pub part : ℕ → ℤ
-  pub signed : Signed n P part
+  pub circuit : Circuit n P (λ i. signOf (part i))
   pub fits : (m : ℕ) → m < n → Fits (part m) (f m)
 
 abbrev Opposed : (ℕ → ℤ) → (ℕ → ℤ) → ℕ → Type 0
@@ -152,7 +111,7 @@ module _ (n : ℕ) (P : Configuration) where
   -- one round: an elementary dependency inside f fits it, or its negative does, or the two are mixed where the ratio is least, and fewer places are left
   module _ (f : ℕ → ℤ) (h : Dependency n P f) (smaller : (g : ℕ → ℤ) → Dependency n P g → cnt n g < cnt n f → Somewhere n g → Conforming n P g) where
     mix : (g : ℕ → ℤ) → Dependency n P g → ((m : ℕ) → f m ≡ pos 0 → g m ≡ pos 0) → Least n (λ m. Pos (f m *ℤ g m)) → Opposed f g n → Conforming n P f
-    mix g k under s r = record { part = c .part; signed = c .signed; fits = λ m l. fits-trans (c .fits m l) (fit m l) }
+    mix g k under s r = record { part = c .part; circuit = c .circuit; fits = λ m l. fits-trans (c .fits m l) (fit m l) }
       where
         a : ℤ
         a = f (r .at)
@@ -171,7 +130,7 @@ module _ (n : ℕ) (P : Configuration) where
             (cnt-lt n (r .at) both f (λ m l. fit m l .under) (r .low) (mixed-self a b) (factor-l a b (r .is)))
             (record { at = s .here; low = s .low; so = mixed-same a b (f (s .here)) (g (s .here)) (r .is) (s .so) })
 
-    round : Inside n P f → Conforming n P f
+    round : Inside (Elementary n P) f → Conforming n P f
     round i = go (minimum (λ m. negℤ (f m *ℤ g m)) (λ m. g m *ℤ g m) (λ m. Neg (f m *ℤ g m)) (λ m. dec-pos (negℤ (f m *ℤ g m))) (λ m o. square-pos (g m) (factor-r (f m) (g m) o)) n)
         (least n (λ m. Pos (f m *ℤ g m)) (λ m. dec-pos (f m *ℤ g m)))
       where
@@ -179,46 +138,23 @@ module _ (n : ℕ) (P : Configuration) where
         g = i .part
 
         go : Opposed f g n ⊎ ((m : ℕ) → m < n → Neg (f m *ℤ g m) → ⊥) → Least n (λ m. Pos (f m *ℤ g m)) ⊎ ((m : ℕ) → m < n → Pos (f m *ℤ g m) → ⊥) → Conforming n P f
-        go (inr none) s = record { part = g; signed = as-is (i .elementary); fits = λ m l. fits-of (g m) (f m) (λ p. none m l (pos-cast (ap negℤ (*ℤ-comm (g m) (f m))) p)) (i .under m) }
+        go (inr none) s = record { part = g; circuit = elementary-circuit n P g (i .kind); fits = λ m l. fits-of (g m) (f m) (λ p. none m l (pos-cast (ap negℤ (*ℤ-comm (g m) (f m))) p)) (i .under m) }
         go (inl r) (inr none) = record {
           part = λ m. negℤ (g m);
-          signed = negated (i .elementary);
+          circuit = circuit-alike (λ m l. sym (signOf-opposite (g m))) (circuit-against (elementary-circuit n P g (i .kind)));
           fits = λ m l. fits-of (negℤ (g m)) (f m) (λ p. none m l (pos-cast (ring (f m ∷ g m ∷ []) (neg (neg (var 1) ⊗ var 0)) (var 0 ⊗ var 1) tt) p)) (λ e. ap negℤ (i .under m e));
         }
-        go (inl r) (inl s) = mix g (elementary-dependency n P g (i .elementary)) (i .under) s r
+        go (inl r) (inl s) = mix g (elementary-dependency n P g (i .kind)) (i .under) s r
 
-  by-count : Distinct n P → (b : ℕ) (f : ℕ → ℤ) → cnt n f < b → Dependency n P f → Somewhere n f → Conforming n P f
-  by-count ds zero f l h s = none-below (cnt n f) l
-  by-count ds (suc b) f l h s = round f h (λ g k j t. by-count ds b g (omega arith) k t) (inside n P f ds h s)
+  by-count : Spans n P → (b : ℕ) (f : ℕ → ℤ) → cnt n f < b → Dependency n P f → Somewhere n f → Conforming n P f
+  by-count sp zero f l h s = none-below (cnt n f) l
+  by-count sp (suc b) f l h s = round f h (λ g k j t. by-count sp b g (omega arith) k t) (inside n P f h s sp)
 
-  pub conformal : Distinct n P → (f : ℕ → ℤ) → Dependency n P f → Somewhere n f → Conforming n P f
-  conformal ds f h s = by-count ds (suc (cnt n f)) f (omega arith) h s
+  conformal : Spans n P → (f : ℕ → ℤ) → Dependency n P f → Somewhere n f → Conforming n P f
+  conformal sp f h s = by-count sp (suc (cnt n f)) f (omega arith) h s
 
--- ---- the theorems
-
-pub circuit-inside : (n : ℕ) (P : Configuration) → Distinct n P → (f : ℕ → ℤ) → Dependency n P f → Somewhere n f → (X : SignVector) × Circuit n P X × ((i : ℕ) → i < n → (X i ≡ nought → ⊥) → X i ≡ signOf (f i))
-circuit-inside n P ds f h s = (λ i. signOf (c .part i), signed-circuit n P ds (c .part) (c .signed), λ i l nz. fits-sign (c .part i) (f i) (c .fits i l) (λ e. nz (signOf-zero (c .part i) e)))
+pub circuit-inside : (n : ℕ) (P : Configuration) → Spans n P → (f : ℕ → ℤ) → Dependency n P f → Somewhere n f → (X : SignVector) × Circuit n P X × ((i : ℕ) → i < n → (X i ≡ nought → ⊥) → X i ≡ signOf (f i))
+circuit-inside n P sp f h s = (λ i. signOf (c .part i), c .circuit, λ i l nz. fits-sign (c .part i) (f i) (c .fits i l) (λ e. nz (signOf-zero (c .part i) e)))
   where
     c : Conforming n P f
-    c = conformal n P ds f h s
-
--- what conforms to the dependency of a circuit has the circuit's signs: it is 0 nowhere on the support
-circuit-conforming : (n : ℕ) (P : Configuration) → Distinct n P → (X : SignVector) (c : Circuit n P X) (r : Conforming n P (c .by)) → Alike n X (λ i. signOf (r .part i))
-circuit-conforming n P ds X c r i l = go (ℤ-discrete (r .part i) (pos 0))
-  where
-    off : (m : ℕ) → m < n → X m ≡ nought → r .part m ≡ pos 0
-    off m k e = r .fits m k .under (zero-signOf (c .by m) (sym (c .signs m k) ∙ e))
-
-    go : Dec (r .part i ≡ pos 0) → X i ≡ signOf (r .part i)
-    go (yes z) = c .smallest (r .part) (signed-dependency n P (r .part) (r .signed)) (signed-somewhere n P ds (r .part) (r .signed)) off i l z ∙ sym (signOf-zero (r .part i) z)
-    go (no nz) = c .signs i l ∙ sym (fits-sign (r .part i) (c .by i) (r .fits i l) nz)
-
-pub circuit-elementary : (n : ℕ) (P : Configuration) → Distinct n P → (X : SignVector) → Circuit n P X → (f : ℕ → ℤ) × Elementary n P f × (Alike n X (λ i. signOf (f i)) ⊎ Alike n X (against (λ i. signOf (f i))))
-circuit-elementary n P ds X c = go (r .part) (r .signed) (circuit-conforming n P ds X c r)
-  where
-    r : Conforming n P (c .by)
-    r = conformal n P ds (c .by) (c .dependency) (c .somewhere)
-
-    go : (g : ℕ → ℤ) → Signed n P g → Alike n X (λ i. signOf (g i)) → (f : ℕ → ℤ) × Elementary n P f × (Alike n X (λ i. signOf (f i)) ⊎ Alike n X (against (λ i. signOf (f i))))
-    go g (as-is {f} e) a = (f, e, inl a)
-    go g (negated {f} e) a = (f, e, inr (λ i l. a i l ∙ signOf-opposite (f i)))
+    c = conformal n P sp f h s

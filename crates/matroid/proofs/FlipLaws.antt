@@ -11,48 +11,28 @@ use mathlib.Core.Path.{_≡_, refl, sym, _∙_, ap, subst}
 use mathlib.Core.Logic.{_⊎_, inl, inr, ⊎-elim}
 use mathlib.Core.Bool.{not, _&&_}
 use mathlib.Core.List.{List}
-use Prim.Native.Nat.{ℕ, zero, suc, _<_}
-use native.Mathlib.Omega.{arith}
+use Prim.Native.Nat.{ℕ, _<_}
 use native.Mathlib.Decide.{ℕ-discrete}
 use lib.Dec.{eqb}
-use lib.IntN.{ℤ, pos, negℤ, _+ℤ_, +ℤ-comm}
+use lib.IntN.{negℤ}
 use Rattle.algebra.specs.Answer.{Reflects}
 use Rattle.algebra.specs.Loops.{picks}
 use Rattle.algebra.specs.Sets.{isOn, On, Within, union}
-use Rattle.algebra.specs.Sign.{Side, Sign, minus, nought, plus, opposite, isNought, Pos, NN, Tri, below, at-nought, above}
-use Rattle.algebra.specs.Sum.{sum}
+use Rattle.algebra.specs.Sign.{Side, Sign, minus, nought, plus, opposite, isNought, Pos}
 use Rattle.algebra.proofs.AnswerLaws.{reflects-yes, reflects-true, reflects-not, reflects-and, reflects-ltb, reflects-eqb, is-nought}
+use Rattle.algebra.proofs.SumLaws.{nn-sum-zero}
 use Rattle.algebra.proofs.UnionLaws.{set-known, on-either}
 use Rattle.algebra.proofs.SetTests.{on-low, isOn-picks, picks-within, union-within}
-use Rattle.algebra.proofs.SignLaws.{other-side, nought-side, sides-differ, tri, nn-zero, nn-add, pos-zero, pos-nn-add, neg-nn, np-of, neg-zero, dec-pos, signOf-pos, opposite-opposite, plus-nought, minus-nought}
-use Rattle.matroid.specs.Points.{Configuration}
+use Rattle.algebra.proofs.SignLaws.{other-side, nought-side, sides-differ, np-of, neg-zero, dec-pos, signOf-pos, opposite-opposite, plus-nought, minus-nought}
+use Rattle.matroid.specs.Configurations.{Configuration}
 use Rattle.matroid.specs.Circuits.{SignVector, Circuit}
 use Rattle.matroid.specs.Triangulations.{Family, Triangulation}
 use Rattle.matroid.specs.Flips.{Piece, Joins, Link, Supports, Star, Flip}
-use Rattle.matroid.proofs.Search.{none-below, last-or-below, Least, least}
+use Rattle.matroid.proofs.Search.{Least, least}
 use Rattle.matroid.proofs.Dependent.{somewhere-nowhere, dep-neg}
-use Rattle.matroid.proofs.Conforming.{circuit-against}
+use Rattle.matroid.proofs.CircuitLaws.{circuit-against}
 
 -- ---- the two sides
-
--- a sum of numbers that are not negative is 0 only where they all are
-nn-sum : (n : ℕ) (f : ℕ → ℤ) → ((i : ℕ) → i < n → NN (f i)) → NN (sum n f)
-nn-sum zero f h = nn-zero refl
-nn-sum (suc n) f h = nn-add (nn-sum n f (λ i l. h i (omega arith))) (h n (omega arith))
-
-part-zero : {a b : ℤ} → NN a → NN b → a +ℤ b ≡ pos 0 → a ≡ pos 0
-part-zero {a} {b} h k e = go (tri a)
-  where
-    go : Tri a → a ≡ pos 0
-    go (below p) = neg-nn p h
-    go (at-nought q) = q
-    go (above p) = pos-zero (pos-nn-add p k) e
-
-nn-sum-zero : (n : ℕ) (f : ℕ → ℤ) → ((i : ℕ) → i < n → NN (f i)) → sum n f ≡ pos 0 → (i : ℕ) → i < n → f i ≡ pos 0
-nn-sum-zero zero f h e i l = none-below i l
-nn-sum-zero (suc n) f h e i l =
-    let k : NN (sum n f) = nn-sum n f (λ j m. h j (omega arith)) in
-    last-or-below n i l (λ q. ap f q ∙ part-zero (h n (omega arith)) k (+ℤ-comm (f n) (sum n f) ∙ e)) (nn-sum-zero n f (λ j m. h j (omega arith)) (part-zero k (h n (omega arith)) e) i)
 
 module _ {n : ℕ} {P : Configuration} where
   some-plus : {X : SignVector} → Circuit n P X → (a : ℕ) × (a < n) × (X a ≡ plus)
@@ -137,7 +117,7 @@ pub taken-out-old : {n : ℕ} {P : Configuration} {T : Family} {X : SignVector} 
 taken-out-old {n} {P} {T} {X} {s} g h t r =
     let (w, (p, c, b, q, v, q′, j)) = r in
     let (v₀, (u, m, k)) = h .same p b c q q′ v in
-    subst T (set-known n u t (g .triples u m .0) w (λ i l. (λ o. j .0 i .1 (k .0 i .0 o), λ o. k .0 i .1 (j .0 i .0 o)))) m
+    subst T (set-known n u t (g .simplices u m .within) w (λ i l. (λ o. j .0 i .1 (k .0 i .0 o), λ o. k .0 i .1 (j .0 i .0 o)))) m
 
 -- ---- there and back
 

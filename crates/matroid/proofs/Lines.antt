@@ -4,6 +4,7 @@
 --   middle-of-three    of three different points on a line one is in the middle
 --   line-through       the points are on the line of two different ones where none of them turns off it
 --   collinear-iff      one line holds the points exactly when no three turn
+--   spans-iff-bent     the points span the plane exactly when no line holds them
 use mathlib.Core.Path.{_≡_, refl, sym, _∙_, ap, ap₂}
 use mathlib.Core.Logic.{_⊎_, inl, inr, _↔_}
 use mathlib.Core.List.{List, [], _∷_}
@@ -11,12 +12,13 @@ use Prim.Native.Nat.{ℕ, zero, suc, _<_}
 use native.Mathlib.Omega.{arith}
 use native.Mathlib.Decide.{ℕ-discrete, decLt}
 use lib.IntN.{ℤ, pos, negℤ, _+ℤ_, _-ℤ_, _*ℤ_, +ℤ-invr}
-use Rattle.algebra.specs.Sign.{Pos, Neg, NZ, Tri, below, at-nought, above}
+use Rattle.algebra.specs.Sign.{signOf, Pos, Neg, NZ, Tri, below, at-nought, above}
 use Rattle.algebra.proofs.Ring.{Ex, cst, var, _⊕_, _⊝_, _⊗_, neg, ring, sub-zero→eq}
-use Rattle.algebra.proofs.SignLaws.{tri, mul-zero, both-zero, pos-cast, pos-mul, pos-add, pos-zero, pos-of-mul, zero-of-mul, dec-nz, zero-if}
-use Rattle.matroid.specs.Points.{Point, Configuration, Between, Collinear, turn, dot}
-use Rattle.matroid.proofs.Turns.{coordinates, X, Y, D, O, turn-swap, turn-first, turn-last, turn-ends, turn-form, point-path, dot-base, dot-zero, dot-pos}
-use Rattle.matroid.proofs.Search.{Least, least}
+use Rattle.algebra.proofs.SignLaws.{tri, mul-zero, both-zero, pos-cast, pos-mul, pos-add, pos-zero, pos-of-mul, zero-of-mul, dec-nz, zero-if, signOf-zero, zero-signOf}
+use Rattle.matroid.specs.Configurations.{Simplex, Spans}
+use Rattle.matroid.specs.Points.{Point, Points, plane, Between, Collinear, turn, dot}
+use Rattle.matroid.proofs.Turns.{coordinates, X, Y, D, O, turn-swap, turn-first, turn-last, turn-ends, turn-form, turn-is-volume, point-path, dot-base, dot-zero, dot-pos}
+use Rattle.matroid.proofs.Search.{Least, least, some-below}
 
 pub between-iff : (m p q : Point) → turn m p q ≡ pos 0 → (m ≡ q → ⊥) → Neg (dot m p q) ↔ Between m p q
 between-iff m p q e ne = (into, out)
@@ -103,7 +105,7 @@ line-turn a b c proper p q r hp hq hr = zero-if (turn p q r) (λ t. proper (
     pr : a *ℤ r .x +ℤ b *ℤ r .y +ℤ c -ℤ (a *ℤ p .x +ℤ b *ℤ p .y +ℤ c) ≡ pos 0
     pr = ap₂ _-ℤ_ hr hp
 
-module _ (n : ℕ) (P : Configuration) where
+module _ (n : ℕ) (P : Points) where
   -- the line through two different points
   pub line-through : (p q : Point) → (q ≡ p → ⊥) → ((i : ℕ) → i < n → turn p q (P i) ≡ pos 0) → Collinear n P
   line-through p q ne h = record {
@@ -144,5 +146,28 @@ module _ (n : ℕ) (P : Configuration) where
         go (inl k) = line-through (P 0) (P (k .here)) (λ e. k .so (ap (λ z. dot (P 0) z z) e ∙ dot-base (P 0) (P 0))) (λ i l. on-first (k .here) i (k .low) l)
         go (inr none) = line-at (P 0) (λ i l. dot-zero (P 0) (P i) (zero-if (dot (P 0) (P i) (P i)) (none i l)))
 
-pub collinear-iff : (n : ℕ) (P : Configuration) → Collinear n P ↔ ((a b c : ℕ) → a < b → b < c → c < n → turn (P a) (P b) (P c) ≡ pos 0)
+pub collinear-iff : (n : ℕ) (P : Points) → Collinear n P ↔ ((a b c : ℕ) → a < b → b < c → c < n → turn (P a) (P b) (P c) ≡ pos 0)
 collinear-iff n P = (λ l a b c ab bc cn. line-turn (l .a) (l .b) (l .c) (l .proper) (P a) (P b) (P c) (l .holds a (omega arith)) (l .holds b (omega arith)) (l .holds c cn), line n P)
+
+pub spans-iff-bent : (n : ℕ) (P : Points) → Spans n (plane P) ↔ (Collinear n P → ⊥)
+spans-iff-bent n P = (λ (s, x). flat s x, λ bent. go bent (some-below n _ (λ c. some-below c _ (λ b. some-below b _ (λ a. dec-nz (turn (P a) (P b) (P c)))))))
+  where
+    flat : (s : List ℕ) → Simplex n (plane P) s → Collinear n P → ⊥
+    flat [] x l = let k = x .size in omega arith
+    flat (a ∷ []) x l = let k = x .size in omega arith
+    flat (a ∷ b ∷ []) x l = let k = x .size in omega arith
+    flat (a ∷ b ∷ c ∷ []) x l =
+        let w = x .within in
+        x .full (ap signOf (sym (turn-is-volume P a b c)) ∙ signOf-zero _ (collinear-iff n P .0 l a b c (let k = w .2 .0 in omega arith) (let k = w .2 .2 .0 in omega arith) (w .2 .2 .1)))
+    flat (a ∷ b ∷ c ∷ d ∷ s) x l = let k = x .size in omega arith
+
+    go : (Collinear n P → ⊥) → Dec ((c : ℕ) × (c < n) × ((b : ℕ) × (b < c) × ((a : ℕ) × (a < b) × NZ (turn (P a) (P b) (P c))))) → Spans n (plane P)
+    go bent (yes (c, cn, (b, bc, (a, ab, nz)))) = (
+      a ∷ b ∷ c ∷ [],
+      record {
+        within = (omega arith, omega arith, (omega arith, omega arith, (omega arith, cn, tt)));
+        size = refl;
+        full = λ e. nz (turn-is-volume P a b c ∙ zero-signOf _ e);
+      },
+    )
+    go bent (no none) = absurd (bent (collinear-iff n P .1 (λ a b c ab bc cn. zero-if _ (λ nz. none (c, cn, (b, bc, (a, ab, nz)))))))

@@ -3,17 +3,20 @@
 --   coordinates ps     the environment of `ring` for a list of points: point i has the variables 2 i and 2 i + 1
 --   X i, Y i           the coordinates of point i, as expressions
 --   D i j k, O m i j   turn and dot of the points of these numbers, as expressions
+--   altEx, detEx       alternating sums and determinants, as expressions
 --
--- Main theorems: `turn-is-det3`; alternating: `turn-cycle`, `turn-swap`, `turn-swap-first`; repeated points: `turn-first`, `turn-last`, `turn-ends`; `turn-form`;
+-- Main theorems: `turn-is-volume`; alternating: `turn-cycle`, `turn-swap`, `turn-swap-first`; repeated points: `turn-first`, `turn-last`, `turn-ends`; `turn-form`;
 -- `dot-base`, `dot-zero`, `dot-pos`: the scalar product, and that different points are apart; `point-path`: points with the same coordinates are the same.
 use mathlib.Core.Path.{_≡_, _∙_}
 use mathlib.Core.List.{List, [], _∷_}
-use Prim.Native.Nat.{ℕ, _+_, _*_}
+use Prim.Native.Nat.{ℕ, zero, suc, _+_, _*_}
 use lib.IntN.{ℤ, pos, negℤ, _+ℤ_, _-ℤ_, _*ℤ_, +ℤ-comm}
 use Rattle.algebra.specs.Sign.{Pos, Tri, below, at-nought, above}
 use Rattle.algebra.proofs.Ring.{Ex, cst, var, _⊕_, _⊝_, _⊗_, neg, ring, sub-zero→eq}
 use Rattle.algebra.proofs.SignLaws.{tri, square-nn, squares-zero, nn-add, neg-nn}
-use Rattle.matroid.specs.Points.{Point, det3, homogeneous, turn, dot}
+use Rattle.algebra.specs.Loops.{tabulate}
+use Rattle.matroid.specs.Configurations.{volume}
+use Rattle.matroid.specs.Points.{Point, Points, plane, turn, dot}
 
 -- ---- expressions
 
@@ -35,16 +38,24 @@ O m i j = (X i ⊝ X m) ⊗ (X j ⊝ X m) ⊕ (Y i ⊝ Y m) ⊗ (Y j ⊝ Y m)
 
 -- ---- the determinant
 
--- the rows 1, x, y of the points 0, 1, 2, by the first row
-det3Ex : Ex
-det3Ex =
-    cst (pos 1) ⊗ (X 1 ⊗ Y 2 ⊝ Y 1 ⊗ X 2)
-    ⊝ X 0 ⊗ (cst (pos 1) ⊗ Y 2 ⊝ Y 1 ⊗ cst (pos 1))
-    ⊕ Y 0 ⊗ (cst (pos 1) ⊗ X 2 ⊝ X 1 ⊗ cst (pos 1))
+abbrev pub altEx : {A : Type 0} → (List A → Ex) → List A → (A → Ex) → Ex
+altEx D [] g = cst (pos 0)
+altEx D (a ∷ s) g = g a ⊗ D s ⊝ altEx (λ t. D (a ∷ t)) s g
 
-pub turn-is-det3 : (a b c : Point) → turn a b c ≡ det3 (homogeneous a) (homogeneous b) (homogeneous c)
-unfolding det3Ex
-turn-is-det3 a b c = ring (coordinates (a ∷ b ∷ c ∷ [])) (D 0 1 2) det3Ex tt
+abbrev pub detEx : (ℕ → ℕ → Ex) → List ℕ → List ℕ → Ex
+detEx M [] [] = cst (pos 1)
+detEx M [] (c ∷ cs) = cst (pos 0)
+detEx M (i ∷ s) cs = altEx (detEx M s) cs (M i)
+
+-- the row 1, x, y of point i
+abbrev rowEx : ℕ → ℕ → Ex
+rowEx i zero = cst (pos 1)
+rowEx i (suc zero) = X i
+rowEx i (suc (suc c)) = Y i
+
+pub turn-is-volume : (P : Points) (a b c : ℕ) → turn (P a) (P b) (P c) ≡ volume (plane P) (a ∷ b ∷ c ∷ [])
+unfolding tabulate
+turn-is-volume P a b c = ring (coordinates (P a ∷ P b ∷ P c ∷ [])) (D 0 1 2) (detEx rowEx (0 ∷ 1 ∷ 2 ∷ []) (0 ∷ 1 ∷ 2 ∷ [])) tt
 
 pub turn-cycle : (a b c : Point) → turn a b c ≡ turn b c a
 turn-cycle a b c = ring (coordinates (a ∷ b ∷ c ∷ [])) (D 0 1 2) (D 1 2 0) tt

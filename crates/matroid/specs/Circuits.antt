@@ -7,12 +7,13 @@
 --   against X              every sign turned: (Z⁻, Z⁺)
 --   Crossing n P S T       a circuit with Z⁺ inside S and Z⁻ inside T (source 001, Theorem 2.1, IP)
 --
--- Main theorems: proofs/Elementary and proofs/Conforming (what the circuits of distinct points are), proofs/Crossing.
+-- Main theorems: proofs/CircuitLaws (`circuit-like`: a circuit is known by its support, up to the sign), proofs/Conforming (one inside every dependency), proofs/Crossing,
+-- proofs/Planar (what the circuits of distinct points in the plane are).
 use mathlib.Core.Path.{_≡_}
 use Prim.Native.Nat.{ℕ, _<_}
 use lib.IntN.{ℤ, pos}
 use Rattle.algebra.specs.Sign.{Sign, minus, nought, plus, signOf, opposite}
-use Rattle.matroid.specs.Points.{Configuration}
+use Rattle.matroid.specs.Configurations.{Configuration}
 use Rattle.matroid.specs.Dependencies.{Dependency, Somewhere}
 
 abbrev pub SignVector : Type 0

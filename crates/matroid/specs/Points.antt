@@ -1,44 +1,26 @@
--- Points of the plane and their chirotope (source 001, section 3.1).
+-- Points of the plane (document 01).
 --
 --   Point               x and y, whole numbers
---   Row                 three whole numbers: a row of a 3 × 3 matrix
---   det3 a b c          the determinant of the rows a, b, c
---   homogeneous p       1, x, y: the 1 is written first
---   chirotope a b c     the sign of the determinant of three points
---   turn a b c          the same determinant, as document 01 writes it
+--   turn a b c          the determinant of three points, as document 01 writes it
 --   Between m p q       m lies strictly between p and q: positive weights u at p and v at q balance at m
 --   dot m p q           (p - m) · (q - m), by which it is decided for three points on a line: negative where m is between the others
---   Configuration       a point for each number; only the numbers below some n count
+--   Points              a point for each number; only the numbers below some n count
+--   coordinate p c      x, then y
+--   plane P             the points as a configuration of dimension 2
 --   Distinct n P        no two of the first n points are the same
 --   Collinear n P       one line holds the first n points
 --
--- Main theorems: proofs/Turns (`turn-is-det3`, alternating, 0 for repeated points), proofs/Lines (`between-iff`, `middle-of-three`, `collinear-iff`).
+-- Main theorems: proofs/Turns (`turn-is-volume`, alternating, 0 for repeated points), proofs/Lines (`between-iff`, `middle-of-three`, `collinear-iff`, `spans-iff-bent`),
+-- proofs/Planar (the circuits of distinct points).
 use mathlib.Core.Path.{_≡_}
-use Prim.Native.Nat.{ℕ, _<_}
+use Prim.Native.Nat.{ℕ, zero, suc, _<_}
 use lib.IntN.{ℤ, pos, _+ℤ_, _-ℤ_, _*ℤ_}
-use Rattle.algebra.specs.Sign.{Sign, signOf, Pos}
+use Rattle.algebra.specs.Sign.{Pos}
+use Rattle.matroid.specs.Configurations.{Configuration}
 
 pub record Point : Type 0 where
   pub x : ℤ
   pub y : ℤ
-
-pub record Row : Type 0 where
-  pub u : ℤ
-  pub v : ℤ
-  pub w : ℤ
-
--- by the first row
-abbrev pub det3 : Row → Row → Row → ℤ
-det3 a b c =
-    a .u *ℤ (b .v *ℤ c .w -ℤ b .w *ℤ c .v)
-    -ℤ a .v *ℤ (b .u *ℤ c .w -ℤ b .w *ℤ c .u)
-    +ℤ a .w *ℤ (b .u *ℤ c .v -ℤ b .v *ℤ c .u)
-
-abbrev pub homogeneous : Point → Row
-homogeneous p = record { u = pos 1; v = p .x; w = p .y }
-
-abbrev pub chirotope : Point → Point → Point → Sign
-chirotope a b c = signOf (det3 (homogeneous a) (homogeneous b) (homogeneous c))
 
 abbrev pub turn : Point → Point → Point → ℤ
 turn a b c = (b .x -ℤ a .x) *ℤ (c .y -ℤ a .y) -ℤ (b .y -ℤ a .y) *ℤ (c .x -ℤ a .x)
@@ -54,13 +36,20 @@ pub record Between (m p q : Point) : Type 0 where
 abbrev pub dot : Point → Point → Point → ℤ
 dot m p q = (p .x -ℤ m .x) *ℤ (q .x -ℤ m .x) +ℤ (p .y -ℤ m .y) *ℤ (q .y -ℤ m .y)
 
-abbrev pub Configuration : Type 0
-Configuration = ℕ → Point
+abbrev pub Points : Type 0
+Points = ℕ → Point
 
-abbrev pub Distinct : ℕ → Configuration → Type 0
+abbrev pub coordinate : Point → ℕ → ℤ
+coordinate p zero = p .x
+coordinate p (suc c) = p .y
+
+abbrev pub plane : Points → Configuration
+plane P = record { dimension = 2; at = λ i. coordinate (P i) }
+
+abbrev pub Distinct : ℕ → Points → Type 0
 Distinct n P = (i j : ℕ) → i < j → j < n → P i ≡ P j → ⊥
 
-pub record Collinear (n : ℕ) (P : Configuration) : Type 0 where
+pub record Collinear (n : ℕ) (P : Points) : Type 0 where
   pub a : ℤ
   pub b : ℤ
   pub c : ℤ

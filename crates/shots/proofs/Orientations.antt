@@ -9,7 +9,7 @@
 use mathlib.Core.Path.{_≡_, refl, sym, _∙_, ap}
 use mathlib.Core.Logic.{_⊎_, inl, inr, _↔_}
 use mathlib.Core.Bool.{true}
-use mathlib.Core.List.{List}
+use mathlib.Core.List.{List, [], _∷_}
 use Prim.Native.Nat.{ℕ, _<_}
 use lib.IntN.{ℤ, pos}
 use Rattle.algebra.specs.Loops.{any}
@@ -18,10 +18,11 @@ use Rattle.algebra.specs.Answer.{Reflects}
 use Rattle.algebra.proofs.AnswerLaws.{reflects-iff, reflects-yes, reflects-true, reflects-minus, reflects-not, reflects-and, is-minus, is-plus}
 use Rattle.algebra.proofs.LoopLaws.{reflects-any}
 use Rattle.algebra.proofs.SignLaws.{signOf-zero, zero-signOf, signOf-opposite}
-use Rattle.matroid.specs.Points.{Between, chirotope, dot}
-use Rattle.matroid.proofs.Turns.{turn-is-det3, turn-cycle, turn-swap, turn-swap-first, turn-first, turn-last, turn-ends}
+use Rattle.matroid.specs.Configurations.{chirotope}
+use Rattle.matroid.specs.Points.{Between, dot}
+use Rattle.matroid.proofs.Turns.{turn-is-volume, turn-cycle, turn-swap, turn-swap-first, turn-first, turn-last, turn-ends}
 use Rattle.matroid.proofs.Lines.{between-iff}
-use Rattle.shots.specs.Coordinates.{pointOf, areaOf}
+use Rattle.shots.specs.Coordinates.{pointOf, patchOf, areaOf}
 use Rattle.shots.specs.Patch.{countOf, orientOf, betweenOf, someLeft, someRight, borderOf}
 use Rattle.shots.specs.Tests.{refusalOf}
 use Rattle.shots.proofs.Patch.{patch-differ}
@@ -34,9 +35,9 @@ minus-plus plus = refl
 
 module _ (l : List ℤ) where
   module _ (a b c : ℕ) where
-    pub orient-is-chirotope : orientOf l a b c ≡ chirotope (pointOf l a) (pointOf l b) (pointOf l c)
+    pub orient-is-chirotope : orientOf l a b c ≡ chirotope (patchOf l) (a ∷ b ∷ c ∷ [])
     unfolding orientOf areaOf
-    orient-is-chirotope = ap signOf (turn-is-det3 (pointOf l a) (pointOf l b) (pointOf l c))
+    orient-is-chirotope = ap signOf (turn-is-volume (pointOf l) a b c)
 
     pub orient-cycle : orientOf l a b c ≡ orientOf l b c a
     unfolding orientOf areaOf

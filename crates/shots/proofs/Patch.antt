@@ -3,7 +3,7 @@
 --   near-of           a run with no far coordinate is near
 --   Kept l            no rule of shots is broken
 --   patch-kept        so it is where the refusal is 0
---   patch-near, patch-few, patch-even, patch-distinct, patch-differ, patch-bent    what that says of the shots
+--   patch-near, patch-few, patch-even, patch-distinct, patch-differ, patch-bent    what that says of the shots; `patch-spans`: they span the plane
 use mathlib.Core.Path.{_≡_, sym}
 use mathlib.Core.Logic.{inl, inr}
 use mathlib.Core.Bool.{false, not}
@@ -16,9 +16,11 @@ use lib.IntN.{ℤ, pos, natAbs}
 use borrow.Author.Tests.{ltb-false}
 use Rattle.algebra.proofs.AnswerLaws.{refusal-keeps, reflects-no}
 use Rattle.algebra.proofs.LoopLaws.{any-no}
+use Rattle.matroid.specs.Configurations.{Spans}
 use Rattle.matroid.specs.Points.{Distinct, Collinear}
+use Rattle.matroid.proofs.Lines.{spans-iff-bent}
 use Rattle.shots.specs.Sizes.{shotsLeast, shotsMost, reach}
-use Rattle.shots.specs.Coordinates.{pointOf}
+use Rattle.shots.specs.Coordinates.{pointOf, patchOf}
 use Rattle.shots.specs.Patch.{countOf}
 use Rattle.shots.specs.Tests.{badCount, farAt, someFar, someSame, someBent, refusalOf, Near}
 use Rattle.shots.specs.Lines.{BadCount}
@@ -81,3 +83,6 @@ module _ (l : List ℤ) (h : refusalOf l ≡ 0) where
 
   pub patch-bent : Collinear (countOf l) (pointOf l) → ⊥
   patch-bent = reflects-no (line-decided l) (patch-kept l h .bent)
+
+  pub patch-spans : Spans (countOf l) (patchOf l)
+  patch-spans = spans-iff-bent (countOf l) (pointOf l) .1 patch-bent

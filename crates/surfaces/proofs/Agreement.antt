@@ -76,7 +76,7 @@ pub record Proper (n : ℕ) (z : Circuit) : Type 0 where
   pub size : (length (supportOf n z) ≡ 3) ⊎ (length (supportOf n z) ≡ 4)
 
 module _ {n : ℕ} {z : Circuit} (k : Proper n z) where
-  side-sign : (s : Sign) → Side s → (i : ℕ) → On (sideOf z s) i ↔ (signIn z i ≡ s)
+  pub side-sign : (s : Sign) → Side s → (i : ℕ) → On (sideOf z s) i ↔ (signIn z i ≡ s)
   unfolding signIn
   side-sign minus d i = go (isOn i (z .plus)) (isOn i (z .minus)) (k .apart i)
     where

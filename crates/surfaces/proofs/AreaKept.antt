@@ -45,7 +45,7 @@ use Rattle.surfaces.specs.Lines.{Accepted, signsOf}
 use Rattle.surfaces.specs.Calls.{flipOf}
 use Rattle.algebra.proofs.UnionLaws.{set-known, on-either, on-without, union-apart, dropped-length}
 use Rattle.surfaces.proofs.Agreement.{sideOf, swapped, Proper, side-within, side-inside, support-within, on-support, piece-published}
-use Rattle.surfaces.proofs.Agreement.{source-at, numbered, listed-at, Joining, joins-decided, link-published, supports-published, star-published}
+use Rattle.surfaces.proofs.Agreement.{numbered, listed-at, Joining, joins-decided, link-published, supports-published, star-published}
 use Rattle.surfaces.proofs.Promises.{flip-gives, flip-published, flip-words, put-in-new-here}
 use Rattle.surfaces.proofs.Balance.{cone-balanced}
 
@@ -263,9 +263,9 @@ module _ (l : List ℤ) where
     sides-balanced s d c h e = go s d
       where
         go : (s : Sign) → Side s → sumOf (λ p. sizeOf l (union n p c)) (pieces s) ≡ sumOf (λ p. sizeOf l (union n p c)) (pieces (opposite s))
-        go minus d = sym (cone-balanced l ok (source-at l z zl) c (h .0) e (h .1))
+        go minus d = sym (cone-balanced l ok z zl c (h .0) e (h .1))
         go nought d = absurd (nought-side d)
-        go plus d = cone-balanced l ok (source-at l z zl) c (h .0) e (h .1)
+        go plus d = cone-balanced l ok z zl c (h .0) e (h .1)
 
     module _ (s : Sign) (d : Side s)
         (off : (p c : List ℕ) → List·Memᴰ p (pieces s) → List·Memᴰ c (completions n p) → completes n w p c ≡ true → (i : ℕ) → On S i → On c i → ⊥) where

@@ -16,7 +16,7 @@ use Rattle.algebra.specs.Sign.{minus, plus}
 use Rattle.matroid.specs.Circuits.{SignVector}
 use Rattle.matroid.specs.Triangulations.{Triangulation}
 use Rattle.matroid.specs.Flips.{Supports}
-use Rattle.shots.specs.Coordinates.{pointOf}
+use Rattle.shots.specs.Coordinates.{patchOf}
 use Rattle.shots.specs.Patch.{countOf}
 use Rattle.shots.specs.Lines.{shotLines}
 use Rattle.circuits.specs.Sides.{signIn}
@@ -27,7 +27,7 @@ use Rattle.surfaces.specs.Flips.{flippedOf}
 use Rattle.surfaces.specs.Placing.{placedOf}
 
 abbrev pub Accepted : List ℤ → List ℕ → Type 0
-Accepted l w = (PastLast l w → ⊥) × Triangulation (countOf l) (pointOf l) (Listed (countOf l) w)
+Accepted l w = (PastLast l w → ⊥) × Triangulation (countOf l) (patchOf l) (Listed (countOf l) w)
 
 abbrev pub signsOf : List ℤ → ℕ → SignVector
 signsOf l z = signIn (circuitAt l z)
