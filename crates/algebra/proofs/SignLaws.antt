@@ -13,7 +13,7 @@
 --   signOf-opposite, opposite-opposite, nought-opposite     a number and its negative
 --   plus-minus, plus-nought, minus-nought     signs are told apart
 --   other-side, nought-side, sides-differ     the opposite of a side is a side, and another one; nought is none
---   plus-opposite, minus-opposite, opposite-signed, same-self, same-turned, turned-other, value-nought      the tests of signs
+--   opposite-signed, same-self, same-turned, turned-other, value-nought      the tests of signs
 use mathlib.Core.Path.{_≡_, refl, sym, _∙_, ap, ap₂, subst}
 use mathlib.Core.Logic.{inl, inr, ⊎-elim}
 use mathlib.Core.Bool.{true, false, not, true≢false}
@@ -21,7 +21,7 @@ use mathlib.Core.List.{[], _∷_}
 use Prim.Native.Nat.{ℕ, zero, suc, _+_, _*_}
 use native.Mathlib.Omega.{arith}
 use lib.IntN.{ℤ, pos, negsuc, negℤ, _+ℤ_, _*ℤ_, negℤ-negℤ, *ℤ-zero, zero-*ℤ, ℤ-discrete}
-use Rattle.algebra.specs.Sign.{Sign, minus, nought, plus, signOf, opposite, value, isMinus, isNought, isPlus, sameSign, eqZ, Pos, NN, Neg, NP, NZ, Tri, below, at-nought, above, Side}
+use Rattle.algebra.specs.Sign.{Sign, minus, nought, plus, signOf, opposite, value, isNought, sameSign, eqZ, Pos, NN, Neg, NP, NZ, Tri, below, at-nought, above, Side}
 use Rattle.algebra.proofs.IntLaws.{*ℤ-neg-r}
 use Rattle.algebra.proofs.Ring.{cst, var, _⊕_, _⊗_, neg, ring}
 
@@ -281,18 +281,6 @@ unfolding opposite
 nought-opposite s e = ap opposite e
 
 -- ---- tests of signs
-
-pub plus-opposite : (s : Sign) → isPlus (opposite s) ≡ isMinus s
-unfolding opposite
-plus-opposite minus = refl
-plus-opposite nought = refl
-plus-opposite plus = refl
-
-pub minus-opposite : (s : Sign) → isMinus (opposite s) ≡ isPlus s
-unfolding opposite
-minus-opposite minus = refl
-minus-opposite nought = refl
-minus-opposite plus = refl
 
 pub opposite-signed : (s : Sign) → isNought (opposite s) ≡ isNought s
 unfolding opposite

@@ -17,21 +17,20 @@ use lib.ListN.{length}
 use lib.IntN.{ℤ, pos, negsuc, natAbs, _+ℤ_}
 use Rattle.algebra.specs.Loops.{tally}
 use Rattle.algebra.specs.Sets.{On, Within, dropped}
-use Rattle.algebra.specs.Sign.{Sign, minus, nought, plus, signOf, isMinus, isPlus, NZ}
+use Rattle.algebra.specs.Sign.{Sign, minus, nought, plus, signOf, opposite, isMinus, isPlus, NZ}
 use Rattle.algebra.specs.Sum.{sum}
 use Rattle.algebra.proofs.ListLaws.{Apart, Other, Split, split, middle, apart-middle}
 use Rattle.algebra.proofs.LoopLaws.{tally-same}
 use Rattle.algebra.proofs.Ring.{cst, var, _⊕_, neg, ring}
 use Rattle.algebra.proofs.SetTests.{mem-on, on-low, numbers-apart}
-use Rattle.algebra.proofs.SignLaws.{zero-if, zero-signOf, dec-nz, plus-nought, minus-nought, plus-opposite, minus-opposite}
+use Rattle.algebra.proofs.SignLaws.{zero-if, dec-nz, plus-nought, minus-nought, same-turned}
 use Rattle.algebra.proofs.UnionLaws.{dropped-split}
 use Rattle.matroid.specs.Configurations.{Configuration, volume}
 use Rattle.matroid.specs.Circuits.{SignVector, Circuit, Alike, against}
 use Rattle.matroid.proofs.Search.{Least, least}
 use Rattle.matroid.proofs.Determinants.{alternate-zero, alternate-size}
-use Rattle.matroid.proofs.Dependent.{somewhere-nowhere}
-use Rattle.matroid.proofs.Bases.{weights, weights-at, weights-on, weights-dependency, independent}
-use Rattle.matroid.proofs.CircuitLaws.{circuit-like}
+use Rattle.matroid.proofs.Bases.{weights, weights-at, weights-on, weights-dependency}
+use Rattle.matroid.proofs.CircuitLaws.{circuit-flat, circuit-like}
 
 -- ---- numbers that sum to 0
 
@@ -71,13 +70,8 @@ module _ (n : ℕ) (P : Configuration) (X : SignVector) (c : Circuit n P X) (S :
   weights-inside i l e = zero-if (weights P S i) (λ nz. nz (at (split i S (weights-on P S i nz))))
     where
       at : Split i S → weights P S i ≡ pos 0
-      at r = weights-at P S i r (once i r) ∙ alternate-zero (length (r .front)) (zero-if (volume P (r .front ++ r .back)) (λ nz. somewhere-nowhere (c .somewhere)
-          (independent n P (r .front ++ r .back) nz (c .by) (c .dependency) (λ m k o. zero-if (c .by m) (λ z. off m k z o)))))
-        where
-          off : (m : ℕ) → m < n → NZ (c .by m) → (List·Memᴰ m (r .front ++ r .back) → ⊥) → ⊥
-          off m k z o =
-              let known : X m ≡ nought → ⊥ = λ y. z (zero-signOf (c .by m) (sym (c .signs m k) ∙ y)) in
-              ⊎-elim (λ q. known (ap X q ∙ e)) o (middle (r .front) (r .back) (subst (List·Memᴰ m) (r .is) (mem-on m S .1 (holds m k known))))
+      at r = weights-at P S i r (once i r) ∙ alternate-zero (length (r .front)) (circuit-flat c (r .front ++ r .back)
+          (λ m k nz. ⊎-elim (λ q. absurd (nz (ap X q ∙ e))) (λ y. y) (middle (r .front) (r .back) (subst (List·Memᴰ m) (r .is) (mem-on m S .1 (holds m k nz))))))
 
   abbrev pub total : (Sign → Bool) → ℕ
   total t = tally n (λ i. cond (t (X i)) (natAbs (volume P (dropped n i S))) 0)
@@ -92,6 +86,7 @@ module _ (n : ℕ) (P : Configuration) (X : SignVector) (c : Circuit n P X) (S :
       at i l plus e = ap (λ (k : ℕ). cond (t plus) k 0) (sym (size-without i (holds i l (λ q. plus-nought (sym e ∙ q)))))
 
   pub circuit-balanced : total isPlus ≡ total isMinus
+  unfolding opposite
   circuit-balanced = by-weights isPlus refl ∙ go (least n (λ i. NZ (g i)) (λ i. dec-nz (g i))) ∙ sym (by-weights isMinus refl)
     where
       g : ℕ → ℤ
@@ -111,7 +106,7 @@ module _ (n : ℕ) (P : Configuration) (X : SignVector) (c : Circuit n P X) (S :
 
       signed : Alike n X (λ i. signOf (g i)) ⊎ Alike n X (against (λ i. signOf (g i))) → sized isPlus ≡ sized isMinus
       signed (inl a) = by-sign isPlus isPlus (λ i l. ap isPlus (a i l)) ∙ same ∙ sym (by-sign isMinus isMinus (λ i l. ap isMinus (a i l)))
-      signed (inr a) = by-sign isPlus isMinus (λ i l. ap isPlus (a i l) ∙ plus-opposite (signOf (g i))) ∙ sym same ∙ sym (by-sign isMinus isPlus (λ i l. ap isMinus (a i l) ∙ minus-opposite (signOf (g i))))
+      signed (inr a) = by-sign isPlus isMinus (λ i l. ap isPlus (a i l) ∙ same-turned plus (signOf (g i))) ∙ sym same ∙ sym (by-sign isMinus isPlus (λ i l. ap isMinus (a i l) ∙ same-turned minus (signOf (g i))))
 
       go : Least n (λ i. NZ (g i)) ⊎ ((i : ℕ) → i < n → NZ (g i) → ⊥) → sized isPlus ≡ sized isMinus
       go (inl r) = signed (circuit-like n P X c g (weights-dependency n P S low) (record { at = r .here; low = r .low; so = r .so }) weights-inside)

@@ -2,20 +2,23 @@
 --
 --   circuit-alike       a circuit is known by its signs below n
 --   circuit-against     every sign turned is a circuit again
+--   circuit-off         its weights are 0 off its support
+--   circuit-flat        points that hold a whole circuit are flat
 --   circuit-like        a circuit is known by its support, up to the sign: a dependency inside it has its signs, or all of them turned
 use mathlib.Core.Path.{_≡_, sym, _∙_, ap}
 use mathlib.Core.Logic.{_⊎_, inl, inr}
-use mathlib.Core.List.{[], _∷_}
+use mathlib.Core.List.{List, [], _∷_, List·Memᴰ}
 use Prim.Native.Nat.{ℕ, _<_}
 use lib.IntN.{ℤ, pos, negℤ, _+ℤ_, _*ℤ_, negℤ-negℤ}
 use Rattle.algebra.specs.Sign.{nought, signOf, opposite, NZ, Tri, below, at-nought, above}
 use Rattle.algebra.proofs.IntLaws.{*ℤ-neg-l, *ℤ-neg-r}
 use Rattle.algebra.proofs.Ring.{cst, var, _⊕_, _⊝_, _⊗_, neg, ring, sub-zero→eq}
 use Rattle.algebra.proofs.SignLaws.{tri, both-zero, zero-if, signOf-zero, zero-signOf, signOf-opposite, nought-opposite, scaled-sign}
-use Rattle.matroid.specs.Configurations.{Configuration}
+use Rattle.matroid.specs.Configurations.{Configuration, volume}
 use Rattle.matroid.specs.Dependencies.{Dependency, Somewhere}
 use Rattle.matroid.specs.Circuits.{SignVector, Circuit, Alike, against}
-use Rattle.matroid.proofs.Dependent.{dep-lin, dep-neg, somewhere-neg}
+use Rattle.matroid.proofs.Dependent.{dep-lin, dep-neg, somewhere-neg, somewhere-nowhere}
+use Rattle.matroid.proofs.Bases.{independent}
 
 module _ {n : ℕ} {P : Configuration} where
   pub circuit-alike : {X Y : SignVector} → Alike n X Y → Circuit n P X → Circuit n P Y
@@ -36,6 +39,13 @@ module _ {n : ℕ} {P : Configuration} where
     smallest = λ g h s off i l z. nought-opposite (X i) (c .smallest g h s (λ m k q. off m k (nought-opposite (X m) q)) i l z);
   }
 
+  pub circuit-off : {X : SignVector} (c : Circuit n P X) (i : ℕ) → i < n → X i ≡ nought → c .by i ≡ pos 0
+  circuit-off c i l e = zero-signOf (c .by i) (sym (c .signs i l) ∙ e)
+
+  pub circuit-flat : {X : SignVector} → Circuit n P X → (s : List ℕ) → ((i : ℕ) → i < n → (X i ≡ nought → ⊥) → List·Memᴰ i s) → volume P s ≡ pos 0
+  circuit-flat c s holds = zero-if (volume P s) (λ nz. somewhere-nowhere (c .somewhere)
+      (independent n P s nz (c .by) (c .dependency) (λ m l o. zero-if (c .by m) (λ z. o (holds m l (λ e. z (circuit-off c m l e)))))))
+
 pub circuit-like : (n : ℕ) (P : Configuration) (X : SignVector) → Circuit n P X → (g : ℕ → ℤ) → Dependency n P g → Somewhere n g → ((i : ℕ) → i < n → X i ≡ nought → g i ≡ pos 0)
     → Alike n X (λ i. signOf (g i)) ⊎ Alike n X (against (λ i. signOf (g i)))
 circuit-like n P X c g h s off = go (tri (f j)) (tri (g j))
@@ -51,7 +61,7 @@ circuit-like n P X c g h s off = go (tri (f j)) (tri (g j))
     both m = g j *ℤ f m +ℤ negℤ (f j) *ℤ g m
 
     support : (m : ℕ) → m < n → X m ≡ nought → both m ≡ pos 0
-    support m l e = both-zero (g j) (negℤ (f j)) (zero-signOf (f m) (sym (c .signs m l) ∙ e)) (off m l e)
+    support m l e = both-zero (g j) (negℤ (f j)) (circuit-off c m l e) (off m l e)
 
     on-support : X j ≡ nought → ⊥
     on-support e = s .so (off j (s .low) e)

@@ -35,7 +35,7 @@ use Rattle.matroid.proofs.Turns.{coordinates, X, Y, D, O, altEx, detEx,
 use Rattle.matroid.proofs.Dependent.{somewhere-nowhere, also-at, one-nowhere, two-same}
 use Rattle.matroid.proofs.Bases.{weights, weights-off, weights-at, weights-under, weigh, weights-dependency, independent, Elementary, one-more, elementary-somewhere, elementary-circuit}
 use Rattle.matroid.proofs.Inside.{Inside}
-use Rattle.matroid.proofs.CircuitLaws.{circuit-like}
+use Rattle.matroid.proofs.CircuitLaws.{circuit-off, circuit-like}
 
 abbrev pub along : Points → ℕ → ℕ → Configuration
 along P a c = record { dimension = 1; at = λ i k. dot (P a) (P i) (P c) }
@@ -243,7 +243,7 @@ module _ (n : ℕ) (P : Points) (ds : Distinct n P) where
         (on c (List·Memᴰ·tail (List·Memᴰ·tail (List·Memᴰ·head refl)))) (on d (List·Memᴰ·tail (List·Memᴰ·tail (List·Memᴰ·tail (List·Memᴰ·head refl)))))
 
   pub circuit-planar : (X : SignVector) → Circuit n (plane P) X → (f : ℕ → ℤ) × Planar n P f × (Alike n X (λ i. signOf (f i)) ⊎ Alike n X (against (λ i. signOf (f i))))
-  circuit-planar X c = (r .part, r .kind, circuit-like n (plane P) X c (r .part) (planar-dependency (r .part) (r .kind)) (planar-somewhere (r .part) (r .kind)) (λ i l e. r .under i (zero-signOf (c .by i) (sym (c .signs i l) ∙ e))))
+  circuit-planar X c = (r .part, r .kind, circuit-like n (plane P) X c (r .part) (planar-dependency (r .part) (r .kind)) (planar-somewhere (r .part) (r .kind)) (λ i l e. r .under i (circuit-off c i l e)))
     where
       -- the points of the circuit
       points : List ℕ

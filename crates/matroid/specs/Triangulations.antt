@@ -1,4 +1,4 @@
--- Triangulations as sets of simplices (source 001, Theorem 2.1): triangles in the plane, tetrahedra in space.
+-- Triangulations as sets of simplices (source 001, Theorem 2.1; the boundary: section 3.3): triangles in the plane, tetrahedra in space.
 --
 --   Family               a set of sets of points
 --   Face n P e s         e is a face of the simplex s: all its points but one, so an edge of a triangle, a side of a tetrahedron
