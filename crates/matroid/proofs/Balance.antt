@@ -5,7 +5,7 @@
 --   size-without      the weight at a point of S has the size of the volume of the others
 --   sides-same        numbers that sum to 0, by their signs
 --   weights-inside    the weights of S live on the circuit
---   total t           the sum of the volumes of S without a point at which the circuit's sign passes t
+--   sideVolume t      the sum of the volumes of S without a point at which the circuit's sign passes t
 --
 -- Main theorem: `circuit-balanced`. Source 001, section 3.4.
 use mathlib.Core.Path.{_≡_, refl, sym, _∙_, ap, subst}
@@ -73,11 +73,11 @@ module _ (n : ℕ) (P : Configuration) (X : SignVector) (c : Circuit n P X) (S :
       at r = weights-at P S i r (once i r) ∙ alternate-zero (length (r .front)) (circuit-flat c (r .front ++ r .back)
           (λ m k nz. ⊎-elim (λ q. absurd (nz (ap X q ∙ e))) (λ y. y) (middle (r .front) (r .back) (subst (List·Memᴰ m) (r .is) (mem-on m S .1 (holds m k nz))))))
 
-  abbrev pub total : (Sign → Bool) → ℕ
-  total t = tally n (λ i. cond (t (X i)) (natAbs (volume P (dropped n i S))) 0)
+  abbrev pub sideVolume : (Sign → Bool) → ℕ
+  sideVolume t = tally n (λ i. cond (t (X i)) (natAbs (volume P (dropped n i S))) 0)
 
   -- by the weights
-  by-weights : (t : Sign → Bool) → t nought ≡ false → total t ≡ tally n (λ i. cond (t (X i)) (natAbs (weights P S i)) 0)
+  by-weights : (t : Sign → Bool) → t nought ≡ false → sideVolume t ≡ tally n (λ i. cond (t (X i)) (natAbs (weights P S i)) 0)
   by-weights t none = tally-same _ _ n (λ i l. at i l (X i) refl)
     where
       at : (i : ℕ) → i < n → (s : Sign) → X i ≡ s → cond (t s) (natAbs (volume P (dropped n i S))) 0 ≡ cond (t s) (natAbs (weights P S i)) 0
@@ -85,7 +85,7 @@ module _ (n : ℕ) (P : Configuration) (X : SignVector) (c : Circuit n P X) (S :
       at i l nought e = rw none refl
       at i l plus e = ap (λ (k : ℕ). cond (t plus) k 0) (sym (size-without i (holds i l (λ q. plus-nought (sym e ∙ q)))))
 
-  pub circuit-balanced : total isPlus ≡ total isMinus
+  pub circuit-balanced : sideVolume isPlus ≡ sideVolume isMinus
   unfolding opposite
   circuit-balanced = by-weights isPlus refl ∙ go (least n (λ i. NZ (g i)) (λ i. dec-nz (g i))) ∙ sym (by-weights isMinus refl)
     where

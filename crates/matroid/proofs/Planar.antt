@@ -52,7 +52,7 @@ pub data Planar (n : ℕ) (P : Points) : (ℕ → ℤ) → Type 0 where
 
 -- ---- the values
 
--- two, three, four numbers and no others
+-- a number that is none of two, none of three
 none-of-2 : {m a b : ℕ} → (m ≡ a → ⊥) → (m ≡ b → ⊥) → List·Memᴰ m (a ∷ b ∷ []) → ⊥
 none-of-2 x y = neither x (neither y List·Memᴰ·not-nil)
 

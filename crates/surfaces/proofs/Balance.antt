@@ -23,7 +23,7 @@ use Rattle.algebra.proofs.SetTests.{reflects-on, union-within, dropped-within}
 use Rattle.algebra.proofs.UnionLaws.{set-known, on-either, on-without, union-apart, dropped-length}
 use Rattle.matroid.specs.Configurations.{volume}
 use Rattle.matroid.proofs.Turns.{turn-is-volume}
-use Rattle.matroid.proofs.Balance.{total, circuit-balanced}
+use Rattle.matroid.proofs.Balance.{sideVolume, circuit-balanced}
 use Rattle.shots.specs.Coordinates.{pointOf, patchOf, areaOf}
 use Rattle.shots.specs.Patch.{countOf}
 use Rattle.shots.specs.Tests.{refusalOf}
@@ -79,7 +79,7 @@ module _ (l : List ℤ) where
 
     -- the pieces of one side, as a sum over all shots
     side-sum : (s : Sign) (t : Sign → Bool) → ((i : ℕ) → isOn i (sideOf Z s) ≡ t (signIn Z i))
-        → sumOf (λ p. sizeOf l (union n p c)) (piecesOf n Z (sideOf Z s)) ≡ total n (patchOf l) (signIn Z) (circuit-published l ok z zl) T (union-within n S c) (λ i k. on-T i) t
+        → sumOf (λ p. sizeOf l (union n p c)) (piecesOf n Z (sideOf Z s)) ≡ sideVolume n (patchOf l) (signIn Z) (circuit-published l ok z zl) T (union-within n S c) (λ i k. on-T i) t
     unfolding piecesOf
     side-sum s t h =
         sum-map (λ p. sizeOf l (union n p c)) (λ i. dropped n i S) (sideOf Z s) ∙ sum-within (λ i. sizeOf l (union n (dropped n i S) c)) (sideOf Z s) n (side-within proper s)
