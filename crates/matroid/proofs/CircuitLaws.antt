@@ -56,7 +56,7 @@ circuit-like n P X c g h s off = go (tri (f j)) (tri (g j))
     j : ℕ
     j = s .at
 
-    -- 0 at j, so 0 nowhere on the support or everywhere
+    -- 0 at j, which is on the support, and so 0 everywhere
     both : ℕ → ℤ
     both m = g j *ℤ f m +ℤ negℤ (f j) *ℤ g m
 
