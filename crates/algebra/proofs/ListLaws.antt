@@ -3,7 +3,7 @@
 --   getD-mem, mem-getD    what stands at a place is in the list, and what is in the list stands at a place
 --   some-member           a member with a property, or none has it
 --   each-cons, neither    what each member of a list has, and what is no member of it, from its head on
---   Split a xs            xs as what stands before a, a itself, and what stands behind it; `split`: a member splits its list
+--   Split a xs            xs as what stands before a, a itself, and what stands behind it; `split-at`: a member splits its list
 --   middle, around        what is in the list is a or one of the others; the others are in the list
 --   Apart R xs            an earlier and a later member of xs are always related by R
 --   apart-append, apart-at, apart-more    joined lists; the members at two places; related by more
@@ -60,11 +60,11 @@ module _ {A : Type 0} where
     pub back : List A
     pub is : xs ≡ front ++ a ∷ back
 
-  pub split : (a : A) (xs : List A) → List·Memᴰ a xs → Split a xs
-  split a [] m = absurd (List·Memᴰ·not-nil m)
-  split a (x ∷ xs) m =
+  pub split-at : (a : A) (xs : List A) → List·Memᴰ a xs → Split a xs
+  split-at a [] m = absurd (List·Memᴰ·not-nil m)
+  split-at a (x ∷ xs) m =
       ⊎-elim (λ (e : a ≡ x). record { front = []; back = xs; is = ap (λ (y : A). y ∷ xs) (sym e) })
-      (λ k. let r = split a xs k in record { front = x ∷ r .front; back = r .back; is = ap (λ (ys : List A). x ∷ ys) (r .is) }) (List·Memᴰ·cases-cons m)
+      (λ k. let r = split-at a xs k in record { front = x ∷ r .front; back = r .back; is = ap (λ (ys : List A). x ∷ ys) (r .is) }) (List·Memᴰ·cases-cons m)
 
   pub middle : {a b : A} (p q : List A) → List·Memᴰ b (p ++ a ∷ q) → (b ≡ a) ⊎ List·Memᴰ b (p ++ q)
   middle p q m = ⊎-elim (λ k. inr (Memᴰ·append-left q k)) (λ k. ⊎-elim inl (λ h. inr (Memᴰ·append-right p h)) (List·Memᴰ·cases-cons k)) (List·Memᴰ·append-cases p m)

@@ -1,6 +1,6 @@
--- The two sides of a circuit, joined with the same points, have the same volume, in any dimension. Of the points S, among them all points of the circuit, those without one point
--- of the plus side and those without one of the minus side have the same sum of volumes: S has one point more than a simplex, and each without one of its points is a piece of the
--- circuit joined with the others.
+-- The two sides of a circuit, joined with the same points, have the same volume, in any dimension. Of points S that hold a circuit, the sets without one point of its plus side and those
+-- without one of its minus side have the same sum of the sizes of their volumes. Such a set is a piece of the circuit, joined with the points of S off the circuit; it has a volume only where S
+-- has one point more than a simplex.
 --
 --   size-without      the weight at a point of S has the size of the volume of the others
 --   sides-same        numbers that sum to 0, by their signs
@@ -19,7 +19,7 @@ use Rattle.algebra.specs.Loops.{tally}
 use Rattle.algebra.specs.Sets.{On, Within, dropped}
 use Rattle.algebra.specs.Sign.{Sign, minus, nought, plus, signOf, opposite, isMinus, isPlus, NZ}
 use Rattle.algebra.specs.Sum.{sum}
-use Rattle.algebra.proofs.ListLaws.{Apart, Other, Split, split, middle, apart-middle}
+use Rattle.algebra.proofs.ListLaws.{Apart, Other, Split, split-at, middle, apart-middle}
 use Rattle.algebra.proofs.LoopLaws.{tally-same}
 use Rattle.algebra.proofs.Ring.{cst, var, _⊕_, neg, ring}
 use Rattle.algebra.proofs.SetTests.{mem-on, on-low, numbers-apart}
@@ -62,12 +62,12 @@ module _ (n : ℕ) (P : Configuration) (X : SignVector) (c : Circuit n P X) (S :
 
   size-without : (i : ℕ) → On S i → natAbs (weights P S i) ≡ natAbs (volume P (dropped n i S))
   size-without i o =
-      let r = split i S (mem-on i S .1 o) in
+      let r = split-at i S (mem-on i S .1 o) in
       ap natAbs (weights-at P S i r (once i r)) ∙ alternate-size (length (r .front)) (volume P (r .front ++ r .back)) ∙ ap (λ (s : List ℕ). natAbs (volume P s)) (sym (dropped-split n i S w r))
 
   -- without a point outside the circuit the others still hold it, and so are flat
   weights-inside : (i : ℕ) → i < n → X i ≡ nought → weights P S i ≡ pos 0
-  weights-inside i l e = zero-if (weights P S i) (λ nz. nz (at (split i S (weights-on P S i nz))))
+  weights-inside i l e = zero-if (weights P S i) (λ nz. nz (at (split-at i S (weights-on P S i nz))))
     where
       at : Split i S → weights P S i ≡ pos 0
       at r = weights-at P S i r (once i r) ∙ alternate-zero (length (r .front)) (circuit-flat c (r .front ++ r .back)

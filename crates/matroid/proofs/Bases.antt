@@ -22,7 +22,7 @@ use lib.ListN.{length}
 use lib.IntN.{ℤ, pos, negsuc, _+ℤ_, _*ℤ_, *ℤ-comm}
 use Rattle.algebra.specs.Sign.{NZ, signOf}
 use Rattle.algebra.specs.Sum.{sum, unit}
-use Rattle.algebra.proofs.ListLaws.{Split, split, middle, around, apart-middle}
+use Rattle.algebra.proofs.ListLaws.{Split, split-at, middle, around, apart-middle}
 use Rattle.algebra.proofs.LoopLaws.{tabulate-in, tabulate-out}
 use Rattle.algebra.proofs.Ring.{cst, var, _⊕_, _⊝_, _⊗_, ring}
 use Rattle.algebra.proofs.SetTests.{mem-on, dec-mem, on-low}
@@ -129,7 +129,7 @@ module _ (n : ℕ) (P : Configuration) where
           others m k ne (no y) = zero-mul (volume P (m ∷ rest)) (off m k (λ x. ⊎-elim ne y (middle (r .front) (r .back) (subst (List·Memᴰ m) (r .is) x))))
 
       go : Dec (List·Memᴰ i B) → f i ≡ pos 0
-      go (yes k) = on (split i B k)
+      go (yes k) = on (split-at i B k)
       go (no k) = off i l k
 
   -- ---- a basis and one point more
@@ -160,7 +160,7 @@ module _ (n : ℕ) (P : Configuration) where
         at : (i ≡ s) ⊎ List·Memᴰ i B → (m : ℕ) → m < n → g m ≡ pos 0
         at (inl e) = independent B (b .nz) g h (λ m l k. also-at g s m (ap g (sym e) ∙ z) (λ q. outside m l (λ y. ⊎-elim q k (List·Memᴰ·cases-cons y))))
         at (inr y) =
-            let r = split i B y in
+            let r = split-at i B y in
             independent (s ∷ r .front ++ r .back) (exchange i r nz .nz) g h
             (λ m l k. also-at g i m z (λ q. outside m l (λ x. ⊎-elim (λ e. k (List·Memᴰ·head e)) (λ u. ⊎-elim q (λ v. k (List·Memᴰ·tail v)) (middle (r .front) (r .back) (subst (List·Memᴰ m) (r .is) u))) (List·Memᴰ·cases-cons x))))
 

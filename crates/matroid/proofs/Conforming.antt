@@ -11,6 +11,7 @@ use mathlib.Core.Logic.{_⊎_, inl, inr}
 use mathlib.Core.List.{[], _∷_}
 use Prim.Native.Nat.{ℕ, zero, suc, _<_}
 use native.Mathlib.Omega.{arith}
+use native.Mathlib.Nat.{not-suc-le-zero}
 use lib.IntN.{ℤ, pos, negℤ, _+ℤ_, _-ℤ_, _*ℤ_, negℤ-negℤ, *ℤ-comm, ℤ-discrete}
 use Rattle.algebra.specs.Sign.{nought, signOf, Pos, NN, Neg, NZ, Tri, below, at-nought, above}
 use Rattle.algebra.proofs.Ring.{Ex, cst, var, _⊕_, _⊝_, _⊗_, neg, ring}
@@ -19,7 +20,7 @@ use Rattle.algebra.proofs.SignLaws.{square-nn, square-pos, np-of, factor-l, fac
 use Rattle.matroid.specs.Configurations.{Configuration, Spans}
 use Rattle.matroid.specs.Dependencies.{Dependency, Somewhere}
 use Rattle.matroid.specs.Circuits.{SignVector, Circuit}
-use Rattle.matroid.proofs.Search.{none-below, Least, least, Min, minimum, cnt, cnt-lt}
+use Rattle.matroid.proofs.Search.{Least, least, Min, minimum, cnt, cnt-lt}
 use Rattle.matroid.proofs.Dependent.{dep-lin}
 use Rattle.matroid.proofs.Bases.{Elementary, elementary-dependency, elementary-circuit}
 use Rattle.matroid.proofs.Inside.{Inside, inside}
@@ -147,7 +148,7 @@ module _ (n : ℕ) (P : Configuration) where
         go (inl r) (inl s) = mix g (elementary-dependency n P g (i .kind)) (i .under) s r
 
   by-count : Spans n P → (b : ℕ) (f : ℕ → ℤ) → cnt n f < b → Dependency n P f → Somewhere n f → Conforming n P f
-  by-count sp zero f l h s = none-below (cnt n f) l
+  by-count sp zero f l h s = absurd (not-suc-le-zero l)
   by-count sp (suc b) f l h s = round f h (λ g k j t. by-count sp b g (omega arith) k t) (inside n P f h s sp)
 
   conformal : Spans n P → (f : ℕ → ℤ) → Dependency n P f → Somewhere n f → Conforming n P f

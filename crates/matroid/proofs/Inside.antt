@@ -10,17 +10,18 @@ use mathlib.Core.Bool.{Bool, cond}
 use mathlib.Core.List.{List, _∷_, _++_, List·Memᴰ, List·Memᴰ·cases-cons}
 use Prim.Native.Nat.{ℕ, zero, suc, _<_}
 use native.Mathlib.Omega.{arith}
+use native.Mathlib.Nat.{not-suc-le-zero}
 use lib.IntN.{ℤ, pos, ℤ-discrete}
 use Rattle.algebra.specs.Loops.{sumOf}
 use Rattle.algebra.specs.Sign.{NZ, signOf, isNought}
 use Rattle.algebra.proofs.AnswerLaws.{reflects-true, reflects-false, reflects-nought}
-use Rattle.algebra.proofs.ListLaws.{Split, split, some-member}
+use Rattle.algebra.proofs.ListLaws.{Split, split-at, some-member}
 use Rattle.algebra.proofs.LoopLaws.{sum-append}
 use Rattle.algebra.proofs.SetTests.{dec-mem}
 use Rattle.algebra.proofs.SignLaws.{dec-nz, zero-if}
 use Rattle.matroid.specs.Configurations.{Configuration, Spans}
 use Rattle.matroid.specs.Dependencies.{Dependency, Somewhere}
-use Rattle.matroid.proofs.Search.{dec-both, dec-not, none-below, Least, least}
+use Rattle.matroid.proofs.Search.{dec-both, dec-not, Least, least}
 use Rattle.matroid.proofs.Dependent.{somewhere-nowhere}
 use Rattle.matroid.proofs.Bases.{Basis, simplex-basis, weights, weights-on, independent, exchange, Elementary, one-more}
 
@@ -59,12 +60,12 @@ module _ (n : ℕ) (P : Configuration) (f : ℕ → ℤ) (h : Dependency n P f) 
   }
 
   search-in : (k : ℕ) (B : List ℕ) → Basis n P B → noughts f B < k → Inside (Elementary n P) f
-  search-in zero B b l = none-below (noughts f B) l
+  search-in zero B b l = absurd (not-suc-le-zero l)
   search-in (suc k) B b l = more (search-in k) (least n (λ m. NZ (f m) × (List·Memᴰ m B → ⊥)) (λ m. dec-both (dec-nz (f m)) (dec-not (dec-mem m B))))
     where
       at : ((C : List ℕ) → Basis n P C → noughts f C < k → Inside (Elementary n P) f) → (s : ℕ) → s < n → NZ (f s) → (List·Memᴰ s B → ⊥)
           → ((e : ℕ) × List·Memᴰ e B × Leaves s B e) ⊎ ((e : ℕ) → List·Memᴰ e B → Leaves s B e → ⊥) → Inside (Elementary n P) f
-      at go s sn nz new (inl (e, m, (z, w))) = let r = split e B m in go (s ∷ r .front ++ r .back) (exchange n P s B sn b new e r w) (omega (arith, noughts-fewer f s B e r nz z))
+      at go s sn nz new (inl (e, m, (z, w))) = let r = split-at e B m in go (s ∷ r .front ++ r .back) (exchange n P s B sn b new e r w) (omega (arith, noughts-fewer f s B e r nz z))
       at go s sn nz new (inr none) = stays s B sn b new nz none
 
       more : ((C : List ℕ) → Basis n P C → noughts f C < k → Inside (Elementary n P) f)

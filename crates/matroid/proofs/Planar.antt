@@ -204,14 +204,14 @@ module _ (n : ℕ) (P : Points) (ds : Distinct n P) where
 
   -- the first three places of a dependency lie on a line, or there is a fourth
   module _ (f : ℕ → ℤ) (h : Dependency n (plane P) f) (s : Somewhere n f) where
-    abbrev Known : ℕ → Type 0
-    Known i = NZ (f i)
+    abbrev Nonzero : ℕ → Type 0
+    Nonzero i = NZ (f i)
 
     on-line : (a b c : ℕ) → a < b → b < c → c < n → NZ (f a) → NZ (f b) → NZ (f c) → turn (P a) (P b) (P c) ≡ pos 0 → Inside (Planar n P) f
     on-line a b c ab bc cn ha hb hc e = record {
       part = weights3 P a b c;
       kind = e3 a b c ab bc cn e;
-      under = λ m. weights-under (along P a c) (a ∷ b ∷ c ∷ []) m f (each-cons Known ha (each-cons Known hb (each-cons Known hc (λ i k. absurd (List·Memᴰ·not-nil k)))));
+      under = λ m. weights-under (along P a c) (a ∷ b ∷ c ∷ []) m f (each-cons Nonzero ha (each-cons Nonzero hb (each-cons Nonzero hc (λ i k. absurd (List·Memᴰ·not-nil k)))));
     }
 
     of-four : (a b c d : ℕ) → a < b → b < c → c < d → d < n → NZ (f a) → NZ (f b) → NZ (f c) → NZ (f d) → Inside (Planar n P) f
@@ -225,7 +225,7 @@ module _ (n : ℕ) (P : Points) (ds : Distinct n P) where
         go (no x) (no y) (no z) (no w) = record {
           part = weights4 P a b c d;
           kind = e4 a b c d ab bc cd dn x y z w;
-          under = λ m. weights-under (plane P) (a ∷ b ∷ c ∷ d ∷ []) m f (each-cons Known ha (each-cons Known hb (each-cons Known hc (each-cons Known hd (λ i k. absurd (List·Memᴰ·not-nil k))))));
+          under = λ m. weights-under (plane P) (a ∷ b ∷ c ∷ d ∷ []) m f (each-cons Nonzero ha (each-cons Nonzero hb (each-cons Nonzero hc (each-cons Nonzero hd (λ i k. absurd (List·Memᴰ·not-nil k))))));
         }
 
     find : (t : List ℕ) → Within 0 t n → ((i : ℕ) → List·Memᴰ i t → NZ (f i)) → ((i : ℕ) → i < n → (List·Memᴰ i t → ⊥) → f i ≡ pos 0) → Inside (Planar n P) f

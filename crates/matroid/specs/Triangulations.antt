@@ -3,7 +3,7 @@
 --   Family               a set of sets of points
 --   Face n P e s         e is a face of the simplex s: all its points but one, so an edge of a triangle, a side of a tetrahedron
 --   Beside n P e s       one of the first n points is on the side s of e
---   Border n P e         a border face: no two of the first n points are on opposite sides of it, so it is part of their boundary
+--   Border n P e         a border face: no two of the first n points are on opposite sides of it; a face of a simplex is then part of a facet of them all
 --   Triangulation n P T  T is a triangulation of the first n points: a set of simplices, not empty, with
 --     ip                 the intersection property: no circuit has Z⁺ inside one member and Z⁻ inside one
 --     up                 the union property: each face of a member is a face of another member, or a border face
