@@ -4,7 +4,7 @@
 --   swapped n w z s        the list with the pieces of the side s exchanged for those of the other
 --   Proper n z             the sides are increasing and below n, they have no shot in common, and are three or four shots together
 --   numbered               every numbered circuit is so
---   side-within, side-inside    the shots of a side are increasing and below n, and shots of the circuit
+--   side-within, side-inside, side-sign    the shots of a side are increasing and below n, shots of the circuit, and those that have its sign
 --   on-support             the shots of the circuit, by their signs; `support-within`: they are increasing and below n
 --   support-shots          they are those that a numbered circuit is made of; `source-at`: what it is made of
 --   piece-published        the pieces are the published ones
