@@ -282,6 +282,10 @@ reflects-stable (holds h) k = h
 reflects-stable (fails h) k = absurd (k h)
 
 -- two tests of one statement
+pub reflects-dec : {A : Type 0} {b : Bool} → Reflects A b → Dec A
+reflects-dec (holds h) = yes h
+reflects-dec (fails h) = no h
+
 pub reflects-agree : {A : Type 0} {a b : Bool} → Reflects A a → Reflects A b → a ≡ b
 reflects-agree (holds h) r = sym (reflects-true r h)
 reflects-agree (fails h) r = sym (reflects-false r h)

@@ -3,7 +3,8 @@
 --   reflects-on, reflects-same, reflects-all-on    the tests `isOn`, `sameList` and `allOn` decide what they say
 --   same-places                                    the test `sameList`, place by place
 --   on-head, on-tail, on-cases, on-none            what is on a list, from its head on
---   mem-on, dec-mem                                the members of a list are the numbers that are on it; so it can be told which they are
+--   mem-on                                         the members of a list are the numbers that are on it
+--   dec-on, dec-mem                                it can be told which they are
 --   isOn-picks, picks-within                       the numbers that pass a test, as a set
 --   on-low, numbers-apart                          the numbers of a list are within its bounds, and they are different
 --   set-same                                       increasing lists with the same numbers are the same
@@ -28,7 +29,7 @@ use borrow.Author.Tests.{lt-ltb, le-ltb, eqb-true, eq-eqb, ne-eqb}
 use Rattle.algebra.specs.Answer.{Reflects, holds, fails}
 use Rattle.algebra.specs.Loops.{picks, every}
 use Rattle.algebra.specs.Sets.{isOn, On, allOn, sameList, union, dropped, Within, Lex, maskOf, bit, setsOf, placeOf}
-use Rattle.algebra.proofs.AnswerLaws.{reflects-true, reflects-false, reflects-agree, reflects-iff, reflects-and, reflects-eqb}
+use Rattle.algebra.proofs.AnswerLaws.{reflects-dec, reflects-true, reflects-false, reflects-agree, reflects-iff, reflects-and, reflects-eqb}
 use Rattle.algebra.proofs.LoopLaws.{every-same, reflects-every, reflects-test}
 use Rattle.algebra.proofs.ListLaws.{Apart, Other, getD-mem, apart-at, apart-more}
 use Rattle.algebra.proofs.SetLaws.{lex-same, nest-in, nest-out, nest-apart, picks-on, picks-same}
@@ -72,12 +73,11 @@ mem-on i (j ∷ s) = (
   λ o. on-cases i j s o List·Memᴰ·head (λ p. List·Memᴰ·tail (mem-on i s .1 p)),
 )
 
+pub dec-on : (i : ℕ) (s : List ℕ) → Dec (On s i)
+dec-on i s = reflects-dec (reflects-on i s)
+
 pub dec-mem : (i : ℕ) (s : List ℕ) → Dec (List·Memᴰ i s)
-dec-mem i s = go (isOn i s) refl
-  where
-    go : (b : Bool) → isOn i s ≡ b → Dec (List·Memᴰ i s)
-    go true e = yes (mem-on i s .1 e)
-    go false e = no (λ m. false≢true (sym e ∙ mem-on i s .0 m))
+dec-mem i s = reflects-dec (reflects-iff (mem-on i s .1, mem-on i s .0) (reflects-on i s))
 
 pub on-low : (s : List ℕ) (a n i : ℕ) → Within a s n → On s i → (a ≤ i) × (i < n)
 on-low [] a n i w h = absurd (on-none i h)

@@ -2,10 +2,13 @@
 --
 --   tri              which of the three
 --   pos-*, nn-*      sums and products; `pos-cast`, `nn-cast` along an equation
+--   pos-neg-mul, neg-pos-mul, neg-mul     products with a negative factor
 --   pos-zero, neg-nn     the signs exclude one another
 --   mul-zero, zero-mul, both-zero, neg-zero     products, combinations and negatives that are 0
 --   self-neg         a number that is its own negative is 0
 --   *-of-mul         a factor taken away
+--   nn-shared        two numbers that have not the opposite sign of a third one, which is not 0, have not opposite signs
+--   two-alike        of three numbers, two have not opposite signs
 --   square-nn, square-pos, squares-zero
 --   signOf-pos, signOf-neg, signOf-zero     the sign as a value, from the statement
 --   pos-signOf, neg-signOf, zero-signOf     and back
@@ -41,6 +44,15 @@ pos-mul h k = record { by = h .by * k .by + h .by + k .by; is = rw (h .is, k .is
   where
     step : (m n : ℕ) → suc m * suc n ≡ suc (m * n + m + n)
     step m n = omega arith
+
+pub pos-neg-mul : {a : ℤ} (b : ℤ) → Pos a → Neg b → Neg (a *ℤ b)
+pos-neg-mul {a} b h k = pos-cast (ring (a ∷ b ∷ []) (var 0 ⊗ neg (var 1)) (neg (var 0 ⊗ var 1)) tt) (pos-mul h k)
+
+pub neg-pos-mul : (a : ℤ) {b : ℤ} → Neg a → Pos b → Neg (a *ℤ b)
+neg-pos-mul a {b} h k = pos-cast (ring (a ∷ b ∷ []) (neg (var 0) ⊗ var 1) (neg (var 0 ⊗ var 1)) tt) (pos-mul h k)
+
+pub neg-mul : (a b : ℤ) → Neg a → Neg b → Pos (a *ℤ b)
+neg-mul a b h k = pos-cast (ring (a ∷ b ∷ []) (neg (var 0) ⊗ neg (var 1)) (var 0 ⊗ var 1) tt) (pos-mul h k)
 
 pub nn-mul : {a b : ℤ} → NN a → NN b → NN (a *ℤ b)
 nn-mul h k = record { by = h .by * k .by; is = rw (h .is, k .is) refl }
@@ -99,15 +111,18 @@ pub pos-of-mul : {a b : ℤ} → Pos a → Pos (a *ℤ b) → Pos b
 pos-of-mul {a} {b} h k = go (tri b)
   where
     go : Tri b → Pos b
-    go (below n) = pos-np k (nn-cast (ring (a ∷ b ∷ []) (var 0 ⊗ neg (var 1)) (neg (var 0 ⊗ var 1)) tt) (pos-nn (pos-mul h n)))
+    go (below n) = pos-np k (pos-nn (pos-neg-mul b h n))
     go (at-nought e) = pos-zero k (mul-zero a e)
     go (above p) = p
+
+pub neg-of-mul : {a : ℤ} (b : ℤ) → Pos a → Neg (a *ℤ b) → Neg b
+neg-of-mul {a} b h k = pos-of-mul h (pos-cast (ring (a ∷ b ∷ []) (neg (var 0 ⊗ var 1)) (var 0 ⊗ neg (var 1)) tt) k)
 
 pub nn-of-mul : {a b : ℤ} → Pos a → NN (a *ℤ b) → NN b
 nn-of-mul {a} {b} h k = go (tri b)
   where
     go : Tri b → NN b
-    go (below n) = neg-nn (pos-cast (ring (a ∷ b ∷ []) (var 0 ⊗ neg (var 1)) (neg (var 0 ⊗ var 1)) tt) (pos-mul h n)) k
+    go (below n) = neg-nn (pos-neg-mul b h n) k
     go (at-nought e) = nn-zero e
     go (above p) = pos-nn p
 
@@ -119,17 +134,17 @@ zero-of-mul {a} {b} h e = go (tri a) (tri b)
     go (at-nought z) t = absurd (h z)
     go (above p) (above q) = pos-zero (pos-mul p q) e
     go (above p) (at-nought z) = z
-    go (above p) (below q) = pos-zero (pos-mul p q) (ring (a ∷ b ∷ []) (var 0 ⊗ neg (var 1)) (neg (var 0 ⊗ var 1)) tt ∙ ap negℤ e)
-    go (below p) (above q) = pos-zero (pos-mul p q) (ring (a ∷ b ∷ []) (neg (var 0) ⊗ var 1) (neg (var 0 ⊗ var 1)) tt ∙ ap negℤ e)
+    go (above p) (below q) = pos-zero (pos-neg-mul b p q) (ap negℤ e)
+    go (below p) (above q) = pos-zero (neg-pos-mul a p q) (ap negℤ e)
     go (below p) (at-nought z) = z
-    go (below p) (below q) = pos-zero (pos-mul p q) (ring (a ∷ b ∷ []) (neg (var 0) ⊗ neg (var 1)) (var 0 ⊗ var 1) tt ∙ e)
+    go (below p) (below q) = pos-zero (neg-mul a b p q) e
 
 -- a square that is zero, and a sum of squares
 pub square-nn : (a : ℤ) → NN (a *ℤ a)
 square-nn a = go (tri a)
   where
     go : Tri a → NN (a *ℤ a)
-    go (below n) = nn-cast (ring (a ∷ []) (neg (var 0) ⊗ neg (var 0)) (var 0 ⊗ var 0) tt) (pos-nn (pos-mul n n))
+    go (below n) = pos-nn (neg-mul a a n n)
     go (at-nought e) = nn-zero (zero-mul a e)
     go (above p) = pos-nn (pos-mul p p)
 
@@ -137,7 +152,7 @@ pub squares-zero : (a b : ℤ) → a *ℤ a +ℤ b *ℤ b ≡ pos 0 → a ≡ po
 squares-zero a b e = go (tri a)
   where
     go : Tri a → a ≡ pos 0
-    go (below n) = pos-zero (pos-nn-add (pos-cast (ring (a ∷ []) (neg (var 0) ⊗ neg (var 0)) (var 0 ⊗ var 0) tt) (pos-mul n n)) (square-nn b)) e
+    go (below n) = pos-zero (pos-nn-add (neg-mul a a n n) (square-nn b)) e
     go (at-nought z) = z
     go (above p) = pos-zero (pos-nn-add (pos-mul p p) (square-nn b)) e
 
@@ -157,7 +172,7 @@ square-pos z k = go (tri z)
     go : Tri z → Pos (z *ℤ z)
     go (above p) = pos-mul p p
     go (at-nought e) = absurd (k e)
-    go (below p) = pos-cast (ring (z ∷ []) (neg (var 0) ⊗ neg (var 0)) (var 0 ⊗ var 0) tt) (pos-mul p p)
+    go (below p) = neg-mul z z p p
 
 -- not positive is at most nought
 pub np-of : (z : ℤ) → (Pos z → ⊥) → NP z
@@ -173,6 +188,13 @@ factor-l a b h e = pos-zero h (ap negℤ (zero-mul b e))
 
 pub factor-r : (a b : ℤ) → Neg (a *ℤ b) → NZ b
 factor-r a b h e = pos-zero h (ap negℤ (mul-zero a e))
+
+-- signs of three numbers, by their products
+pub nn-shared : (a b c : ℤ) → NZ a → NN (a *ℤ b) → NN (a *ℤ c) → NN (b *ℤ c)
+nn-shared a b c nz h k = nn-of-mul (square-pos a nz) (nn-cast (ring (a ∷ b ∷ c ∷ []) (var 0 ⊗ var 1 ⊗ (var 0 ⊗ var 2)) (var 0 ⊗ var 0 ⊗ (var 1 ⊗ var 2)) tt) (nn-mul h k))
+
+pub two-alike : {X : Type 0} (a b c : ℤ) → Neg (a *ℤ b) → Neg (a *ℤ c) → Neg (b *ℤ c) → X
+two-alike a b c h k l = neg-nn l (pos-nn (pos-of-mul (square-pos a (factor-l a b h)) (pos-cast (ring (a ∷ b ∷ c ∷ []) (var 0 ⊗ var 1 ⊗ (var 0 ⊗ var 2)) (var 0 ⊗ var 0 ⊗ (var 1 ⊗ var 2)) tt) (neg-mul (a *ℤ b) (a *ℤ c) h k))))
 
 pub dec-nz : (z : ℤ) → Dec (NZ z)
 dec-nz z = go (ℤ-discrete z (pos 0))

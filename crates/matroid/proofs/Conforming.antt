@@ -15,7 +15,7 @@ use native.Mathlib.Nat.{not-suc-le-zero}
 use lib.IntN.{ℤ, pos, negℤ, _+ℤ_, _-ℤ_, _*ℤ_, negℤ-negℤ, *ℤ-comm, ℤ-discrete}
 use Rattle.algebra.specs.Sign.{nought, signOf, Pos, NN, Neg, NZ, Tri, below, at-nought, above}
 use Rattle.algebra.proofs.Ring.{Ex, cst, var, _⊕_, _⊝_, _⊗_, neg, ring}
-use Rattle.algebra.proofs.SignLaws.{tri, zero-mul, both-zero, neg-zero, pos-cast, nn-cast, pos-mul, nn-mul, nn-add, pos-nn-add, pos-nn, nn-zero, pos-zero, neg-nn, nn-of-mul}
+use Rattle.algebra.proofs.SignLaws.{tri, zero-mul, both-zero, neg-zero, pos-cast, nn-cast, pos-mul, nn-mul, nn-add, pos-nn-add, pos-nn, nn-zero, pos-zero, neg-nn, nn-of-mul, pos-neg-mul, nn-shared}
 use Rattle.algebra.proofs.SignLaws.{square-nn, square-pos, np-of, factor-l, factor-r, dec-pos, signOf-pos, signOf-neg, signOf-zero, signOf-opposite}
 use Rattle.matroid.specs.Configurations.{Configuration, Spans}
 use Rattle.matroid.specs.Dependencies.{Dependency, Somewhere}
@@ -40,7 +40,7 @@ fits-trans {u} {v} {w} h k = record { agree = go (ℤ-discrete v (pos 0)); under
   where
     go : Dec (v ≡ pos 0) → NN (u *ℤ w)
     go (yes e) = nn-zero (zero-mul w (h .under e))
-    go (no nz) = nn-of-mul (square-pos v nz) (nn-cast (ring (u ∷ v ∷ w ∷ []) ((var 0 ⊗ var 1) ⊗ (var 1 ⊗ var 2)) ((var 1 ⊗ var 1) ⊗ (var 0 ⊗ var 2)) tt) (nn-mul (h .agree) (k .agree)))
+    go (no nz) = nn-shared v u w nz (nn-cast (*ℤ-comm u v) (h .agree)) (k .agree)
 
 fits-pos : {u v : ℤ} → Fits u v → Pos u → Pos v
 fits-pos {u} {v} h p = go (tri v)
@@ -48,7 +48,7 @@ fits-pos {u} {v} h p = go (tri v)
     go : Tri v → Pos v
     go (above q) = q
     go (at-nought e) = pos-zero p (h .under e)
-    go (below q) = neg-nn (pos-cast (ring (u ∷ v ∷ []) (var 0 ⊗ neg (var 1)) (neg (var 0 ⊗ var 1)) tt) (pos-mul p q)) (h .agree)
+    go (below q) = neg-nn (pos-neg-mul v p q) (h .agree)
 
 fits-neg : (u v : ℤ) → Fits u v → Neg u → Neg v
 fits-neg u v h = fits-pos {u = negℤ u} {v = negℤ v} (record {

@@ -1,9 +1,10 @@
 -- Laws of affine dependencies, in any dimension.
 --
---   dep-lin, dep-neg        a combination of two, the negative of one
+--   dep-lin, dep-scale, dep-neg    a combination of two, a multiple of one, its negative
 --   dep-row                 the weighted rows sum to 0 in every column, the ones among them
 --   somewhere-neg           the negative is not 0 where the weights are not
 --   somewhere-nowhere       weights that are not 0 somewhere and 0 everywhere
+--   separated-more          sets that hold separated sets are separated; `separated-turned`: the two sets exchanged
 --   also-at                 where the weights are 0 at p, the place p need not be left out
 --   one-nowhere             a dependency that lives on one point is 0 there
 --   two-same                one that lives on two points, and is not 0, has them at one place
@@ -12,14 +13,14 @@ use mathlib.Core.List.{[], _∷_}
 use Prim.Native.Nat.{ℕ, zero, suc, _<_}
 use native.Mathlib.Omega.{arith}
 use native.Mathlib.Decide.{ℕ-discrete}
-use lib.IntN.{ℤ, pos, negsuc, negℤ, _+ℤ_, _-ℤ_, _*ℤ_}
+use lib.IntN.{ℤ, pos, negsuc, negℤ, _+ℤ_, _-ℤ_, _*ℤ_, negℤ-negℤ}
 use Rattle.algebra.specs.Sign.{NZ}
 use Rattle.algebra.specs.Sum.{sum}
 use Rattle.algebra.proofs.Ring.{cst, var, _⊕_, _⊝_, _⊗_, neg, ring, sub-zero→eq}
-use Rattle.algebra.proofs.SignLaws.{both-zero, neg-zero, mul-zero, zero-mul, zero-of-mul}
+use Rattle.algebra.proofs.SignLaws.{pos-cast, both-zero, neg-zero, mul-zero, zero-mul, zero-of-mul}
 use Rattle.algebra.proofs.SumLaws.{sum-cong, sum-lin, sum-lone}
 use Rattle.matroid.specs.Configurations.{Configuration, row, rank}
-use Rattle.matroid.specs.Dependencies.{Dependency, Somewhere}
+use Rattle.matroid.specs.Dependencies.{Dependency, Somewhere, Separated}
 
 pub somewhere-nowhere : {A : Type 0} {n : ℕ} {f : ℕ → ℤ} → Somewhere n f → ((m : ℕ) → m < n → f m ≡ pos 0) → A
 somewhere-nowhere s none = absurd (s .so (none (s .at) (s .low)))
@@ -44,11 +45,14 @@ module _ (n : ℕ) (P : Configuration) where
       shift : (u v w : ℤ) → (a *ℤ u +ℤ b *ℤ v) *ℤ w ≡ a *ℤ (u *ℤ w) +ℤ b *ℤ (v *ℤ w)
       shift u v w = ring (a ∷ b ∷ u ∷ v ∷ w ∷ []) ((var 0 ⊗ var 2 ⊕ var 1 ⊗ var 3) ⊗ var 4) (var 0 ⊗ (var 2 ⊗ var 4) ⊕ var 1 ⊗ (var 3 ⊗ var 4)) tt
 
-  pub dep-neg : (f : ℕ → ℤ) → Dependency n P f → Dependency n P (λ i. negℤ (f i))
-  dep-neg f h = subst (Dependency n P) (λ k i. negative (f i) k) (dep-lin (negsuc 0) (pos 0) f f h h)
+  pub dep-scale : (a : ℤ) (f : ℕ → ℤ) → Dependency n P f → Dependency n P (λ i. a *ℤ f i)
+  dep-scale a f h = subst (Dependency n P) (λ k i. alone (f i) k) (dep-lin a (pos 0) f f h h)
     where
-      negative : (z : ℤ) → negsuc 0 *ℤ z +ℤ pos 0 *ℤ z ≡ negℤ z
-      negative z = ring (z ∷ []) (cst (negsuc 0) ⊗ var 0 ⊕ cst (pos 0) ⊗ var 0) (neg (var 0)) tt
+      alone : (z : ℤ) → a *ℤ z +ℤ pos 0 *ℤ z ≡ a *ℤ z
+      alone z = ring (a ∷ z ∷ []) (var 0 ⊗ var 1 ⊕ cst (pos 0) ⊗ var 1) (var 0 ⊗ var 1) tt
+
+  pub dep-neg : (f : ℕ → ℤ) → Dependency n P f → Dependency n P (λ i. negℤ (f i))
+  dep-neg f h = subst (Dependency n P) (λ k i. ring (f i ∷ []) (cst (negsuc 0) ⊗ var 0) (neg (var 0)) tt k) (dep-scale (negsuc 0) f h)
 
   module _ (f : ℕ → ℤ) (h : Dependency n P f) where
     pub dep-row : (c : ℕ) → c < rank P → sum n (λ i. f i *ℤ row P i c) ≡ pos 0
@@ -72,3 +76,18 @@ module _ (n : ℕ) (P : Configuration) where
         whole : sum n (λ m. f m *ℤ apart m) ≡ pos 0
         whole = sum-cong n (λ m. ring (f m ∷ P .at m c ∷ P .at j c ∷ []) (var 0 ⊗ (var 1 ⊝ var 2)) (cst (pos 1) ⊗ (var 0 ⊗ var 1) ⊕ neg (var 2) ⊗ var 0) tt)
             ∙ sum-lin n (pos 1) (negℤ (P .at j c)) (λ m. f m *ℤ P .at m c) f ∙ both-zero (pos 1) (negℤ (P .at j c)) (h .each c k) (h .ones)
+
+-- ---- separated sets
+
+module _ {n : ℕ} {P : Configuration} where
+  pub separated-more : {S T S′ T′ : ℕ → Type 0} → Separated n P S T → ((i : ℕ) → i < n → S i → S′ i) → ((i : ℕ) → i < n → T i → T′ i) → Separated n P S′ T′
+  separated-more c f g = record { by = c .by; dependency = c .dependency; somewhere = c .somewhere; left = λ i l p. f i l (c .left i l p); right = λ i l p. g i l (c .right i l p) }
+
+  unfoldable pub separated-turned : {S T : ℕ → Type 0} → Separated n P S T → Separated n P T S
+  separated-turned c = record {
+    by = λ i. negℤ (c .by i);
+    dependency = dep-neg n P (c .by) (c .dependency);
+    somewhere = somewhere-neg n (c .by) (c .somewhere);
+    left = λ i l p. c .right i l p;
+    right = λ i l p. c .left i l (pos-cast (negℤ-negℤ (c .by i)) p);
+  }

@@ -14,3 +14,4 @@ pub mod Turns
 pub mod Lines
 pub mod Edges
 pub mod Planar
+pub mod Trios

@@ -5,6 +5,7 @@
 --   weights4 P a b c d    the weights of four points
 --   weights3-a, -b, -c, -off, weights4-a, -b, -c, -d, -off     their values: scalar products with the vector from a to c; the turns of the other three, with alternating signs
 --   weights3-dependency, weights4-dependency     they are dependencies
+--   points-differ         points of different numbers are different
 --   two-nowhere, three-nowhere    a dependency that lives on two different points, or on three off a line, is 0 everywhere
 --   Planar n P f          f is one of these, its points in order and below n
 --
@@ -15,7 +16,7 @@ use mathlib.Core.Bool.{not}
 use mathlib.Core.List.{List, [], _∷_, List·Memᴰ, List·Memᴰ·head, List·Memᴰ·tail, List·Memᴰ·not-nil}
 use Prim.Native.Nat.{ℕ, zero, suc, _<_}
 use native.Mathlib.Omega.{arith}
-use native.Mathlib.Decide.{ℕ-discrete}
+use native.Mathlib.Decide.{ℕ-discrete, decLt}
 use lib.IntN.{ℤ, pos, negℤ, _-ℤ_, _*ℤ_, negℤ-negℤ, ℤ-discrete}
 use Rattle.algebra.specs.Loops.{picks, tabulate}
 use Rattle.algebra.specs.Answer.{Reflects}
@@ -153,6 +154,15 @@ module _ (n : ℕ) (P : Points) where
     pub three-nowhere : (i j k : ℕ) → NZ (turn (P i) (P j) (P k)) → ((m : ℕ) → m < n → (m ≡ i → ⊥) → (m ≡ j → ⊥) → (m ≡ k → ⊥) → f m ≡ pos 0) → (m : ℕ) → m < n → f m ≡ pos 0
     three-nowhere i j k nz off = independent n (plane P) (i ∷ j ∷ k ∷ []) (λ e. nz (turn-is-volume P i j k ∙ e)) f h
         (λ m l o. off m l (λ e. o (List·Memᴰ·head e)) (λ e. o (List·Memᴰ·tail (List·Memᴰ·head e))) (λ e. o (List·Memᴰ·tail (List·Memᴰ·tail (List·Memᴰ·head e)))))
+
+-- ---- distinct points, in either order
+
+pub points-differ : {n : ℕ} {P : Points} → Distinct n P → (i j : ℕ) → i < n → j < n → (i ≡ j → ⊥) → P i ≡ P j → ⊥
+points-differ ds i j il jl ne e = go (decLt i j)
+  where
+    go : Dec (i < j) → ⊥
+    go (yes k) = ds i j k jl e
+    go (no k) = ds j i (omega arith) il (sym e)
 
 -- ---- circuits
 

@@ -5,17 +5,17 @@
 --   D i j k, O m i j   turn and dot of the points of these numbers, as expressions
 --   altEx, detEx       alternating sums and determinants, as expressions
 --
--- Main theorems: `turn-is-volume`; alternating: `turn-cycle`, `turn-swap`, `turn-swap-first`; repeated points: `turn-first`, `turn-last`, `turn-ends`; `turn-form`;
+-- Main theorems: `turn-is-volume`, `chirotope-turn`; alternating: `turn-cycle`, `turn-swap`, `turn-swap-first`; repeated points: `turn-first`, `turn-last`, `turn-ends`; `turn-form`;
 -- `dot-base`, `dot-zero`, `dot-pos`: the scalar product, and that different points are apart; `point-path`: points with the same coordinates are the same.
-use mathlib.Core.Path.{_≡_, _∙_}
+use mathlib.Core.Path.{_≡_, sym, _∙_, ap}
 use mathlib.Core.List.{List, [], _∷_}
 use Prim.Native.Nat.{ℕ, zero, suc, _+_, _*_}
 use lib.IntN.{ℤ, pos, negℤ, _+ℤ_, _-ℤ_, _*ℤ_, +ℤ-comm}
-use Rattle.algebra.specs.Sign.{Pos, Tri, below, at-nought, above}
+use Rattle.algebra.specs.Sign.{signOf, Pos, Tri, below, at-nought, above}
 use Rattle.algebra.proofs.Ring.{Ex, cst, var, _⊕_, _⊝_, _⊗_, neg, ring, sub-zero→eq}
 use Rattle.algebra.proofs.SignLaws.{tri, square-nn, squares-zero, nn-add, neg-nn}
 use Rattle.algebra.specs.Loops.{tabulate}
-use Rattle.matroid.specs.Configurations.{volume}
+use Rattle.matroid.specs.Configurations.{volume, chirotope}
 use Rattle.matroid.specs.Points.{Point, Points, plane, turn, dot}
 
 -- ---- expressions
@@ -56,6 +56,9 @@ rowEx i (suc (suc c)) = Y i
 pub turn-is-volume : (P : Points) (a b c : ℕ) → turn (P a) (P b) (P c) ≡ volume (plane P) (a ∷ b ∷ c ∷ [])
 unfolding tabulate
 turn-is-volume P a b c = ring (coordinates (P a ∷ P b ∷ P c ∷ [])) (D 0 1 2) (detEx rowEx (0 ∷ 1 ∷ 2 ∷ []) (0 ∷ 1 ∷ 2 ∷ [])) tt
+
+pub chirotope-turn : (P : Points) (a b c : ℕ) → chirotope (plane P) (a ∷ b ∷ c ∷ []) ≡ signOf (turn (P a) (P b) (P c))
+chirotope-turn P a b c = ap signOf (sym (turn-is-volume P a b c))
 
 pub turn-cycle : (a b c : Point) → turn a b c ≡ turn b c a
 turn-cycle a b c = ring (coordinates (a ∷ b ∷ c ∷ [])) (D 0 1 2) (D 1 2 0) tt

@@ -4,7 +4,7 @@
 --   Kept l            no rule of shots is broken
 --   patch-kept        so it is where the refusal is 0
 --   patch-near, patch-few, patch-even, patch-distinct, patch-differ, patch-bent    what that says of the shots; `patch-spans`: they span the plane
-use mathlib.Core.Path.{_≡_, sym}
+use mathlib.Core.Path.{_≡_}
 use mathlib.Core.Logic.{inl, inr}
 use mathlib.Core.Bool.{false, not}
 use mathlib.Core.List.{List, []}
@@ -19,6 +19,7 @@ use Rattle.algebra.proofs.LoopLaws.{any-no}
 use Rattle.matroid.specs.Configurations.{Spans}
 use Rattle.matroid.specs.Points.{Distinct, Collinear}
 use Rattle.matroid.proofs.Lines.{spans-iff-bent}
+use Rattle.matroid.proofs.Planar.{points-differ}
 use Rattle.shots.specs.Sizes.{shotsLeast, shotsMost, reach}
 use Rattle.shots.specs.Coordinates.{pointOf, patchOf}
 use Rattle.shots.specs.Patch.{countOf}
@@ -73,13 +74,8 @@ module _ (l : List ℤ) (h : refusalOf l ≡ 0) where
   pub patch-distinct : Distinct (countOf l) (pointOf l)
   patch-distinct i j k m e = reflects-no (same-decided l) (patch-kept l h .same) (i, j, k, m, e)
 
-  -- in either order
   pub patch-differ : (i j : ℕ) → i < countOf l → j < countOf l → (i ≡ j → ⊥) → pointOf l i ≡ pointOf l j → ⊥
-  patch-differ i j il jl ne e = go (decLt i j)
-    where
-      go : Dec (i < j) → ⊥
-      go (yes k) = patch-distinct i j k jl e
-      go (no k) = patch-distinct j i (omega arith) il (sym e)
+  patch-differ = points-differ patch-distinct
 
   pub patch-bent : Collinear (countOf l) (pointOf l) → ⊥
   patch-bent = reflects-no (line-decided l) (patch-kept l h .bent)
