@@ -29,7 +29,6 @@ static const char *in_words(uint8_t refusal)
     case PATCH_ROOM: return "there is no room";
     case PATCH_CIRCUIT: return "there is no such circuit";
     case PATCH_NO_FLIP: return "there is no such flip";
-    case PATCH_RESULT: return "the surface that was worked out fails the test";
     case PATCH_WALK: return "the walk's record is impossible";
     default: return "given";
     }

@@ -61,7 +61,6 @@ enum patch_refusal {
     PATCH_ROOM = 11,      /* no room: in a table for a row, in a buffer for a record */
     PATCH_CIRCUIT = 12,   /* there is no circuit of this number */
     PATCH_NO_FLIP = 13,   /* there is no flip along this circuit */
-    PATCH_RESULT = 14,    /* the surface that was worked out fails the test */
     PATCH_WALK = 15       /* no walk has this record: rows 0 or beyond the table, or a step number above rows times circuits */
 };
 
@@ -113,10 +112,10 @@ uint8_t patch_circuit(const int32_t *shots, size_t length, size_t z, uint16_t *p
 /* Is the list a triangulation of the shots? It need not use every shot. Refused: 1 2 3 4, 7 10 8 9. */
 uint8_t patch_test(const int32_t *shots, size_t length, const uint64_t list[PATCH_WORDS]);
 
-/* list: the placing surface, a first one for every patch. Refused: 1 2 3 4, 14. */
+/* list: the placing surface, a first one for every patch; it is always a triangulation. Refused: 1 2 3 4. */
 uint8_t patch_placing(const int32_t *shots, size_t length, uint64_t list[PATCH_WORDS]);
 
-/* list: the surface flipped along circuit z, in the place of the one that was lent. Refused: 1 2 3 4, 7 10 8 9, 12 13 14. */
+/* list: the surface flipped along circuit z, in the place of the one that was lent; it is always a triangulation. Refused: 1 2 3 4, 7 10 8 9, 12 13. */
 uint8_t patch_flip(const int32_t *shots, size_t length, uint64_t list[PATCH_WORDS], size_t z);
 
 /* ---- the walk: all surfaces that flips reach from a first one
@@ -129,7 +128,7 @@ uint8_t patch_flip(const int32_t *shots, size_t length, uint64_t list[PATCH_WORD
 /* Begins a walk: the list is row 0, *walk is one row and step 0, whatever it was before. Refused: 1 2 3 4, 7 10 8 9, 11 (less than one row). */
 uint8_t patch_start(const int32_t *shots, size_t length, const uint64_t list[PATCH_WORDS], uint64_t *table, size_t words, patch_walk *walk);
 
-/* Makes one step. *done: 1 where the walk was done already, so that nothing was left to do, else 0. Refused: 1 2 3 4, 15, the row's 7 10 8 9, 14, 11. */
+/* Makes one step. *done: 1 where the walk was done already, so that nothing was left to do, else 0. Refused: 1 2 3 4, 15, the row's 7 10 8 9, 11. */
 uint8_t patch_step(const int32_t *shots, size_t length, uint64_t *table, size_t words, patch_walk *walk, uint8_t *done);
 
 /* Makes up to so many steps, and works the patch out once for all of them. *done: 1 where the walk was done before they were all made, else 0.

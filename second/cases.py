@@ -22,6 +22,7 @@ PENTAGON = [(0, 0), (4, 0), (5, 4), (2, 6), (-1, 4)]
 GRID23 = [(x, y) for y in range(2) for x in range(3)]
 GRID33 = [(x, y) for y in range(3) for x in range(3)]
 GRID25 = [(x, y) for y in range(2) for x in range(5)]
+OUTLINE = [(0, 0), (4, 0), (0, 4), (2, 0), (6, 0), (2, 2), (0, -3), (8, -4)]
 MIDDLE_FIRST = [(1, 0), (0, 0), (2, 0), (0, 1), (2, 3)]
 LATE_START = [(0, 0), (4, 0), (2, 0), (6, 0), (1, 3), (-2, 0)]
 EXTREMES = [(-LIMIT, -LIMIT), (LIMIT, -LIMIT), (LIMIT, LIMIT), (-LIMIT, LIMIT), (0, 0), (1, 0), (LIMIT - 1, LIMIT)]
@@ -545,12 +546,33 @@ def buffer_cases():
             case("write_surface", patch, *words(len(patch), surface), lent)
 
 
+def result_cases():
+    remark("results: placing in any order, with shots on the lines of edges that are there already")
+    for patch in [SQUARE, GRID23, OUTLINE, GRID33]:
+        for _ in range(6):
+            case("placing", rng.sample(patch, len(patch)))
+    remark("results: flips along three on a line, with triangles on both sides of it or on one")
+    for patch in [GRID23, LATE_START, OUTLINE]:
+        n, surfaces = len(patch), walk(patch)[1]
+        threes = len(triples(n)) - len(solid(patch))
+        for surface in rng.sample(surfaces, 4):
+            for z in range(threes):
+                case("flip", patch, *words(n, surface), z)
+    remark("results: rows that a run has written, and then a lent row that is bad, or a lent row twice")
+    for patch in [SQUARE, PENTAGON, LATE_START, GRID23]:
+        n, (count, surfaces) = len(patch), walk(patch)
+        first, last = words(n, surfaces[0]), words(n, surfaces[-1])
+        for row in [[0, 0], [1, 0], [U64, U64], first]:
+            case("run", patch, first + row + [0] * 2 * len(surfaces), 2, 0, U64)
+        case("run", patch, first + last + [0, 0] + [0] * 2 * len(surfaces), 3, 0, 3 * count)
+
+
 def main():
     for group in [
         document_cases, run_cases, shot_cases, extreme_cases, circuit_cases, list_cases, changed_surface_cases,
         folded_cases, placing_cases, flip_cases, random_patch_cases, refused_shot_cases, refused_list_cases,
         start_cases, walk_record_cases, table_cases, random_table_cases, run_length_cases, capacity_cases,
-        patch_record_cases, surface_record_cases, buffer_cases,
+        patch_record_cases, surface_record_cases, buffer_cases, result_cases,
     ]:
         group()
 

@@ -103,7 +103,7 @@ fn plain_answer(call: &str, arguments: &mut Arguments) -> Result<String, Refusal
 /// The calls that answer a list.
 fn list_answer(call: &str, arguments: &mut Arguments, patch: Result<Patch, Refusal>) -> Result<String, Refusal> {
     let (list, patch) = match call {
-        "placing" => patch.and_then(|patch| Ok((patch.placing()?, patch))),
+        "placing" => patch.and_then(|patch| Ok((patch.placing(), patch))),
         "flip" => {
             let (words, circuit) = (arguments.words(), arguments.number());
             patch.and_then(|patch| Ok((patch.flip(&patch.surface(words)?, circuit)?, patch)))

@@ -1,4 +1,4 @@
-//! The second program: `patchwalk` and run cases by document 01 alone, and by other means than
+//! The second program: `patchwalk` and run cases by documents 01 and 02 alone, and by other means than
 //! the library (sets of triples, exact geometry, a plain search), so that the two can be held side by side.
 //!
 //! `second patchwalk < record` prints the walk of a patch record; `second runcases < stream` prints each case's line.
@@ -25,7 +25,7 @@ fn row_line(row: usize, surface: &Surface) -> String {
 
 fn patchwalk(record: &[u8]) -> Result<String, Refusal> {
     let patch = Patch::accept(&records::read_patch(record)?)?;
-    let walk = walk::whole_walk(&patch, TABLE_ROWS)?;
+    let walk = walk::whole_walk(&patch, TABLE_ROWS);
     let area: i128 = walk.rows[0].iter().map(|&t| patch.turn(t).abs()).sum();
     let (circuits, border) = (patch.circuits.len(), patch.border().len());
     let mut text = format!("patch {} circuits {circuits} border {border} area2 {area}\n", patch.len());

@@ -4,7 +4,7 @@ use crate::geometry::{cross, opposed, turn, Homogeneous};
 use std::cell::OnceCell;
 use std::collections::BTreeSet;
 
-/// Document 01's refusals, each with its number.
+/// Document 01's refusals, each with its number; 14 is none since request E9.
 #[derive(Clone, Copy, Debug, PartialEq)]
 pub enum Refusal {
     ShotCount = 1,
@@ -20,7 +20,6 @@ pub enum Refusal {
     NoRoom = 11,
     CircuitNumber = 12,
     NoFlip = 13,
-    BadResult = 14,
     WalkRecord = 15,
 }
 

@@ -44,7 +44,7 @@ fn joined<'a>(pieces: &'a [Vec<usize>], link: &'a Link) -> impl Iterator<Item = 
     pieces.iter().flat_map(move |piece| link.iter().map(move |member| triple(&[&piece[..], &member[..]].concat())))
 }
 
-/// The flip along a circuit, not yet tested.
+/// The flip along a circuit, where there is one.
 fn exchange(surface: &Surface, circuit: &Circuit) -> Option<Surface> {
     let (plus, minus) = (&circuit.plus_pieces, &circuit.minus_pieces);
     let (out, into, link) = match support(surface, plus) {
@@ -97,14 +97,14 @@ impl Patch {
         words
     }
 
-    pub fn placing(&self) -> Result<Surface, Refusal> {
+    pub fn placing(&self) -> Surface {
         let k = (2..self.len()).find(|&k| !self.flat([0, 1, k])).expect("the shots are not on one line");
         let mut surface = Surface::from([[0, 1, k]]);
         for shot in (2..self.len()).filter(|&shot| shot != k) {
             let visible: Vec<_> = self.outer(&surface).filter(|&(edge, third)| self.sees(shot, edge, third)).collect();
             surface.extend(visible.iter().map(|&([i, j], _)| triple(&[i, j, shot])));
         }
-        self.tested(surface)
+        self.checked(surface)
     }
 
     /// The edges that belong to exactly one triple, each with that triple's third shot.
@@ -119,10 +119,12 @@ impl Patch {
 
     /// The flip of a tested surface along a circuit.
     pub fn flip(&self, surface: &Surface, circuit: u64) -> Result<Surface, Refusal> {
-        self.tested(exchange(surface, self.circuit(circuit)?).ok_or(Refusal::NoFlip)?)
+        exchange(surface, self.circuit(circuit)?).map(|result| self.checked(result)).ok_or(Refusal::NoFlip)
     }
 
-    fn tested(&self, result: Surface) -> Result<Surface, Refusal> {
-        self.test(&result).map(|()| result).map_err(|_| Refusal::BadResult)
+    /// Request E9 says that every result is a triangulation. Nothing here proves it, so each one is tested.
+    fn checked(&self, result: Surface) -> Surface {
+        assert_eq!(self.test(&result), Ok(()), "no triangulation: {result:?}");
+        result
     }
 }

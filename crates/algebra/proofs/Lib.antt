@@ -5,6 +5,7 @@ pub mod SumLaws
 pub mod SizeLaws
 pub mod AnswerLaws
 pub mod LoopLaws
+pub mod ParityLaws
 pub mod ListLaws
 pub mod OverLaws
 pub mod SetLaws

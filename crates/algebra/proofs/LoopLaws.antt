@@ -16,7 +16,7 @@
 --   any-some, any-no, every-at               one that passes; a number where none passes, where each does
 --   reflects-test                            a test decides that it holds
 --   reflects-any, reflects-every             `any` and `every` decide that some number below the bound, that each of them has the property
---   reflects-lone                            exactly one number below the bound passes
+--   reflects-alone, reflects-lone            no number but one passes; exactly one does, of those below the bound
 --   any-same, every-same                     tests that agree below the bound
 --   any-last, any-add                        a bound in two parts
 --   every-not                                none passes where every one does not
@@ -37,11 +37,11 @@ use native.Mathlib.Nat.{not-suc-le-zero}
 use lib.Dec.{ltb, eqb}
 use lib.ListN.{length, getD, drop, set, length-append, drop-of-length-le, List·getD-append}
 use lib.Seq.{drop-cons, set-at, getD-at}
-use borrow.Author.Tests.{lt-ltb, le-ltb, eqb-true, eqb-false}
+use borrow.Author.Tests.{lt-ltb, le-ltb}
 use Rattle.algebra.specs.Answer.{Reflects, holds, fails}
 use Rattle.algebra.specs.Loops.{any, every, anyOf, first, fold, tally, sumOf, picks, tabulate}
 use Rattle.algebra.proofs.ListLaws.{Apart, Other, apart-append}
-use Rattle.algebra.proofs.AnswerLaws.{reflects-by, reflects-yes, reflects-no, reflects-true, reflects-iff, reflects-not, reflects-or, reflects-and, reflects-eqb}
+use Rattle.algebra.proofs.AnswerLaws.{reflects-by, reflects-yes, reflects-no, reflects-true, reflects-stable, reflects-iff, reflects-not, reflects-or, reflects-and, reflects-eqb}
 
 -- below suc n: below n, or n itself
 pub last : (i n : ℕ) → i < suc n → (i < n) ⊎ (i ≡ n)
@@ -200,21 +200,15 @@ pub reflects-test : (b : Bool) → Reflects (b ≡ true) b
 reflects-test true = holds refl
 reflects-test false = fails (λ e. true≢false (sym e))
 
+-- no other one
+pub reflects-alone : (f : ℕ → Bool) (n j : ℕ) → Reflects ((i : ℕ) → i < n → f i ≡ true → i ≡ j) (not (any n (λ i. not (eqb i j) && f i)))
+reflects-alone f n j = reflects-iff (λ h i l e. reflects-stable (reflects-eqb i j) (λ q. h (i, l, (q, e))), λ h r. r .2 .0 (h (r .0) (r .1) (r .2 .1)))
+    (reflects-not (reflects-any (λ i. (i ≡ j → ⊥) × (f i ≡ true)) (λ i. not (eqb i j) && f i) n (λ i l. reflects-and (reflects-not (reflects-eqb i j)) (reflects-test (f i)))))
+
 pub reflects-lone : (f : ℕ → Bool) (n : ℕ)
     → Reflects ((j : ℕ) × (j < n) × (f j ≡ true) × ((i : ℕ) → i < n → f i ≡ true → i ≡ j)) (any n (λ j. f j && not (any n (λ i. not (eqb i j) && f i))))
 reflects-lone f n = reflects-iff (λ r. (r .0, r .1, r .2 .0, r .2 .1), λ r. (r .0, r .1, (r .2, r .3)))
-    (reflects-any (λ j. (f j ≡ true) × ((i : ℕ) → i < n → f i ≡ true → i ≡ j)) (λ j. f j && not (any n (λ i. not (eqb i j) && f i))) n (λ j l. reflects-and (reflects-test (f j)) (alone j)))
-  where
-    alone : (j : ℕ) → Reflects ((i : ℕ) → i < n → f i ≡ true → i ≡ j) (not (any n (λ i. not (eqb i j) && f i)))
-    alone j = reflects-iff (into, λ h r. r .2 .0 (h (r .0) (r .1) (r .2 .1)))
-        (reflects-not (reflects-any (λ i. (i ≡ j → ⊥) × (f i ≡ true)) (λ i. not (eqb i j) && f i) n (λ i l. reflects-and (reflects-not (reflects-eqb i j)) (reflects-test (f i)))))
-      where
-        into : ((i : ℕ) × (i < n) × ((i ≡ j → ⊥) × (f i ≡ true)) → ⊥) → (i : ℕ) → i < n → f i ≡ true → i ≡ j
-        into h i l e = go (eqb i j) refl
-          where
-            go : (b : Bool) → eqb i j ≡ b → i ≡ j
-            go true q = eqb-true i j q
-            go false q = absurd (h (i, l, (eqb-false i j q, e)))
+    (reflects-any (λ j. (f j ≡ true) × ((i : ℕ) → i < n → f i ≡ true → i ≡ j)) (λ j. f j && not (any n (λ i. not (eqb i j) && f i))) n (λ j l. reflects-and (reflects-test (f j)) (reflects-alone f n j)))
 
 -- ---- lists
 

@@ -9,7 +9,7 @@
 --   *-of-mul         a factor taken away
 --   nn-shared        two numbers that have not the opposite sign of a third one, which is not 0, have not opposite signs
 --   two-alike        of three numbers, two have not opposite signs
---   square-nn, square-pos, squares-zero
+--   square-nn, square-pos, squares-zero, square-mul     squares; one times a product
 --   signOf-pos, signOf-neg, signOf-zero     the sign as a value, from the statement
 --   pos-signOf, neg-signOf, zero-signOf     and back
 --   scaled-sign      numbers that are the same up to positive factors have the same sign
@@ -189,12 +189,15 @@ factor-l a b h e = pos-zero h (ap negℤ (zero-mul b e))
 pub factor-r : (a b : ℤ) → Neg (a *ℤ b) → NZ b
 factor-r a b h e = pos-zero h (ap negℤ (mul-zero a e))
 
+pub square-mul : (a b c : ℤ) → a *ℤ a *ℤ (b *ℤ c) ≡ a *ℤ b *ℤ (a *ℤ c)
+square-mul a b c = ring (a ∷ b ∷ c ∷ []) (var 0 ⊗ var 0 ⊗ (var 1 ⊗ var 2)) (var 0 ⊗ var 1 ⊗ (var 0 ⊗ var 2)) tt
+
 -- signs of three numbers, by their products
 pub nn-shared : (a b c : ℤ) → NZ a → NN (a *ℤ b) → NN (a *ℤ c) → NN (b *ℤ c)
-nn-shared a b c nz h k = nn-of-mul (square-pos a nz) (nn-cast (ring (a ∷ b ∷ c ∷ []) (var 0 ⊗ var 1 ⊗ (var 0 ⊗ var 2)) (var 0 ⊗ var 0 ⊗ (var 1 ⊗ var 2)) tt) (nn-mul h k))
+nn-shared a b c nz h k = nn-of-mul (square-pos a nz) (nn-cast (sym (square-mul a b c)) (nn-mul h k))
 
 pub two-alike : {X : Type 0} (a b c : ℤ) → Neg (a *ℤ b) → Neg (a *ℤ c) → Neg (b *ℤ c) → X
-two-alike a b c h k l = neg-nn l (pos-nn (pos-of-mul (square-pos a (factor-l a b h)) (pos-cast (ring (a ∷ b ∷ c ∷ []) (var 0 ⊗ var 1 ⊗ (var 0 ⊗ var 2)) (var 0 ⊗ var 0 ⊗ (var 1 ⊗ var 2)) tt) (neg-mul (a *ℤ b) (a *ℤ c) h k))))
+two-alike a b c h k l = neg-nn l (pos-nn (pos-of-mul (square-pos a (factor-l a b h)) (pos-cast (sym (square-mul a b c)) (neg-mul (a *ℤ b) (a *ℤ c) h k))))
 
 pub dec-nz : (z : ℤ) → Dec (NZ z)
 dec-nz z = go (ℤ-discrete z (pos 0))

@@ -48,9 +48,9 @@ bit-member w i j h = λ k. bit (getD w (word k) 0) (place k)
     place : j ≡ (wordBits * i + j) % wordBits
     place = omega arith
 
-pub member-past : (k : ℕ) (w : List ℕ) (r : ℕ) → Words k w → wordBits * k ≤ r → member w r ≡ false
+pub member-past : (w : List ℕ) (r : ℕ) → wordBits * length w ≤ r → member w r ≡ false
 unfolding member
-member-past k w r v h = ap (λ (x : ℕ). bit x (r % wordBits)) (List·getD-eq-default w 0 {n = r / wordBits} (let e = v .0 in omega arith)) ∙ bit-none (r % wordBits)
+member-past w r h = ap (λ (x : ℕ). bit x (r % wordBits)) (List·getD-eq-default w 0 {n = r / wordBits} (omega arith)) ∙ bit-none (r % wordBits)
 
 pub words-same : (k : ℕ) (v w : List ℕ) → Words k v → Words k w → ((r : ℕ) → r < wordBits * k → member v r ≡ member w r) → v ≡ w
 words-same k v w p q h =
@@ -231,7 +231,7 @@ words-low k u r v m = go (decLt r (wordBits * k))
   where
     go : Dec (r < wordBits * k) → r < wordBits * k
     go (yes h) = h
-    go (no h) = absurd (true≢false (sym m ∙ member-past k u r v (omega arith)))
+    go (no h) = absurd (true≢false (sym m ∙ member-past u r (let e = v .0 in omega arith)))
 
 pub sift-all : (k : ℕ) (f : ℕ → Bool) → ((r : ℕ) → f r ≡ true → r < wordBits * k) → (r : ℕ) → member (sift k f) r ≡ f r
 sift-all k f h r = go (decLt r (wordBits * k)) (f r) refl
@@ -239,7 +239,7 @@ sift-all k f h r = go (decLt r (wordBits * k)) (f r) refl
     go : Dec (r < wordBits * k) → (b : Bool) → f r ≡ b → member (sift k f) r ≡ f r
     go (yes l) b e = member-sift k f r l
     go (no l) true e = absurd (l (h r e))
-    go (no l) false e = member-past k (sift k f) r (sift-words k f) (omega arith) ∙ sym e
+    go (no l) false e = member-past (sift k f) r (let e = sift-words k f .0 in omega arith) ∙ sym e
 
 module _ (k : ℕ) (u w : List ℕ) (v : Words k u) where
   pub both-member : (r : ℕ) → member (bothOf u w) r ≡ (member u r && member w r)

@@ -126,7 +126,7 @@ module _ (l : List ℤ) (w : List ℕ) (few : countOf l ≤ shotsMost) (v : Word
       go : Dec (r < last) → Dec (r < wordBits * length w) → r < last
       go (yes h) d = h
       go (no h) (yes u) = absurd (reflects-no (both-some (λ s. leb last s) (member w) (wordBits * length w)) e (r, u, le-leb last r (omega arith), m))
-      go (no h) (no u) = absurd (true≢false (sym m ∙ member-past wordCount w r v (let q = v .0 in omega arith)))
+      go (no h) (no u) = absurd (true≢false (sym m ∙ member-past w r (let q = v .0 in omega arith)))
 
   pub by-solid : not (insideOf w (solidOf l)) ≡ (pastLast l w || someFlat l w)
   unfolding insideOf pastLast someFlat

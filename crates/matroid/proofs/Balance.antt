@@ -5,6 +5,7 @@
 --   size-without      the weight at a point of S has the size of the volume of the others
 --   sides-same        numbers that sum to 0, by their signs
 --   weights-inside    the weights of S live on the circuit
+--   circuit-full      the points of S but one of the circuit have a volume whichever one it is, or in no case
 --   sideVolume t      the sum of the volumes of S without a point at which the circuit's sign passes t
 --
 -- Main theorem: `circuit-balanced`. Source 001, section 3.4.
@@ -13,6 +14,7 @@ use mathlib.Core.Logic.{_⊎_, inl, inr, ⊎-elim}
 use mathlib.Core.Bool.{Bool, true, false, cond}
 use mathlib.Core.List.{List, [], _∷_, _++_, List·Memᴰ}
 use Prim.Native.Nat.{ℕ, zero, suc, _+_, _<_}
+use native.Mathlib.Omega.{arith}
 use lib.ListN.{length}
 use lib.IntN.{ℤ, pos, negsuc, natAbs, _+ℤ_}
 use Rattle.algebra.specs.Loops.{tally}
@@ -26,11 +28,16 @@ use Rattle.algebra.proofs.SetTests.{mem-on, on-low, numbers-apart}
 use Rattle.algebra.proofs.SignLaws.{zero-if, dec-nz, plus-nought, minus-nought, same-turned}
 use Rattle.algebra.proofs.UnionLaws.{dropped-split}
 use Rattle.matroid.specs.Configurations.{Configuration, volume}
+use Rattle.matroid.specs.Dependencies.{Dependency}
 use Rattle.matroid.specs.Circuits.{SignVector, Circuit, Alike, against}
 use Rattle.matroid.proofs.Search.{Least, least}
 use Rattle.matroid.proofs.Determinants.{alternate-zero, alternate-size}
 use Rattle.matroid.proofs.Bases.{weights, weights-at, weights-on, weights-dependency}
 use Rattle.matroid.proofs.CircuitLaws.{circuit-flat, circuit-like}
+
+size-zero : (z : ℤ) → natAbs z ≡ 0 → z ≡ pos 0
+size-zero (pos n) e = ap pos e
+size-zero (negsuc n) e = absurd (omega arith)
 
 -- ---- numbers that sum to 0
 
@@ -73,6 +80,15 @@ module _ (n : ℕ) (P : Configuration) (X : SignVector) (c : Circuit n P X) (S :
       at r = weights-at P S i r (once i r) ∙ alternate-zero (length (r .front)) (circuit-flat c (r .front ++ r .back)
           (λ m k nz. ⊎-elim (λ q. absurd (nz (ap X q ∙ e))) (λ y. y) (middle (r .front) (r .back) (subst (List·Memᴰ m) (r .is) (mem-on m S .1 (holds m k nz))))))
 
+  weighed : Dependency n P (weights P S)
+  weighed = weights-dependency n P S (λ i m. on-low S 0 n i w (mem-on i S .0 m) .1)
+
+  pub circuit-full : (v : ℕ) → v < n → (X v ≡ nought → ⊥) → NZ (volume P (dropped n v S)) → (u : ℕ) → u < n → (X u ≡ nought → ⊥) → NZ (volume P (dropped n u S))
+  circuit-full v vl vz nz u ul uz e = uz (c .smallest (weights P S) weighed (record { at = v; low = vl; so = some }) weights-inside u ul (size-zero (weights P S u) (size-without u (holds u ul uz) ∙ ap natAbs e)))
+    where
+      some : NZ (weights P S v)
+      some q = nz (size-zero (volume P (dropped n v S)) (sym (size-without v (holds v vl vz)) ∙ ap natAbs q))
+
   abbrev pub sideVolume : (Sign → Bool) → ℕ
   sideVolume t = tally n (λ i. cond (t (X i)) (natAbs (volume P (dropped n i S))) 0)
 
@@ -95,21 +111,18 @@ module _ (n : ℕ) (P : Configuration) (X : SignVector) (c : Circuit n P X) (S :
       sized : (Sign → Bool) → ℕ
       sized t = tally n (λ i. cond (t (X i)) (natAbs (g i)) 0)
 
-      low : (i : ℕ) → List·Memᴰ i S → i < n
-      low i m = on-low S 0 n i w (mem-on i S .0 m) .1
-
       same : tally n (onSide isPlus g) ≡ tally n (onSide isMinus g)
-      same = sides-same n g (weights-dependency n P S low .ones)
+      same = sides-same n g (weighed .ones)
 
       by-sign : (t u : Sign → Bool) → ((i : ℕ) → i < n → t (X i) ≡ u (signOf (g i))) → sized t ≡ tally n (onSide u g)
       by-sign t u h = tally-same _ _ n (λ i l. ap (λ (b : Bool). cond b (natAbs (g i)) 0) (h i l))
 
-      signed : Alike n X (λ i. signOf (g i)) ⊎ Alike n X (against (λ i. signOf (g i))) → sized isPlus ≡ sized isMinus
-      signed (inl a) = by-sign isPlus isPlus (λ i l. ap isPlus (a i l)) ∙ same ∙ sym (by-sign isMinus isMinus (λ i l. ap isMinus (a i l)))
-      signed (inr a) = by-sign isPlus isMinus (λ i l. ap isPlus (a i l) ∙ same-turned plus (signOf (g i))) ∙ sym same ∙ sym (by-sign isMinus isPlus (λ i l. ap isMinus (a i l) ∙ same-turned minus (signOf (g i))))
+      alike : Alike n X (λ i. signOf (g i)) ⊎ Alike n X (against (λ i. signOf (g i))) → sized isPlus ≡ sized isMinus
+      alike (inl a) = by-sign isPlus isPlus (λ i l. ap isPlus (a i l)) ∙ same ∙ sym (by-sign isMinus isMinus (λ i l. ap isMinus (a i l)))
+      alike (inr a) = by-sign isPlus isMinus (λ i l. ap isPlus (a i l) ∙ same-turned plus (signOf (g i))) ∙ sym same ∙ sym (by-sign isMinus isPlus (λ i l. ap isMinus (a i l) ∙ same-turned minus (signOf (g i))))
 
       go : Least n (λ i. NZ (g i)) ⊎ ((i : ℕ) → i < n → NZ (g i) → ⊥) → sized isPlus ≡ sized isMinus
-      go (inl r) = signed (circuit-like n P X c g (weights-dependency n P S low) (record { at = r .here; low = r .low; so = r .so }) weights-inside)
+      go (inl r) = alike (circuit-like n P X c g weighed (record { at = r .here; low = r .low; so = r .so }) weights-inside)
       go (inr h) = tally-same _ _ n (λ i l. let e = zero-if (g i) (h i l) in none (isPlus (X i)) e ∙ sym (none (isMinus (X i)) e))
         where
           none : (b : Bool) {z : ℤ} → z ≡ pos 0 → cond b (natAbs z) 0 ≡ 0

@@ -1,28 +1,31 @@
 -- Flips of a triangulation: only one side of a circuit can be supported, what is put in is new, and a flip is undone by the flip of the other side.
 --
---   not-both         not both sides are supported
---   put-in-new       what a flip puts in was not there
---   taken-out-old    what it takes out was there
---   link-off         a member of the link of a piece has no point of the circuit
---   flip-back        the flip of the other side leads back
+--   pieceOf n X a       the circuit's points without the point a: `piece-on`, `piece-of`
+--   Linked n T X s c    c is in the link of a piece of the side s
+--   Holds n X s t       t holds the other side of the circuit
+--   union-joins, dropped-joins    sets that are apart, and their union; a point, and the others
+--   some-side           each side of a circuit has a point
+--   side-nought         a point of a side is on the circuit
+--   no-whole            no member holds the whole circuit
+--   not-both            not both sides are supported
+--   put-in-new          what a flip puts in was not there
+--   taken-out-old       what it takes out was there; `star-holds`: it holds the other side
+--   link-off            a member of the link of a piece has no point of the circuit
+--   flip-back           the flip of the other side leads back
 --
--- The definitions: specs/Flips. Source 001, section 3.4.
+-- The definitions: specs/Flips. That a flip of a triangulation of the plane is a triangulation, as `flip-back` asks: proofs/FlipTriangulates. Source 001, section 3.4.
 use mathlib.Core.Path.{_≡_, refl, sym, _∙_, ap, subst}
-use mathlib.Core.Logic.{_⊎_, inl, inr, ⊎-elim}
-use mathlib.Core.Bool.{not, _&&_}
-use mathlib.Core.List.{List}
+use mathlib.Core.Logic.{_⊎_, inl, inr, ⊎-elim, _↔_}
+use mathlib.Core.List.{List, [], _∷_}
 use Prim.Native.Nat.{ℕ, _<_}
 use native.Mathlib.Decide.{ℕ-discrete}
-use lib.Dec.{eqb}
 use lib.IntN.{negℤ}
-use Rattle.algebra.specs.Answer.{Reflects}
-use Rattle.algebra.specs.Loops.{picks}
-use Rattle.algebra.specs.Sets.{isOn, On, Within, union}
-use Rattle.algebra.specs.Sign.{Side, Sign, minus, nought, plus, opposite, isNought, Pos}
-use Rattle.algebra.proofs.AnswerLaws.{reflects-yes, reflects-true, reflects-not, reflects-and, reflects-ltb, reflects-eqb, is-nought}
+use Rattle.algebra.specs.Sets.{On, Within, union, dropped}
+use Rattle.algebra.specs.Sign.{Side, Sign, minus, nought, plus, opposite, Pos}
+use Rattle.algebra.proofs.AnswerLaws.{reflects-yes, reflects-true}
 use Rattle.algebra.proofs.SumLaws.{nn-sum-zero}
-use Rattle.algebra.proofs.UnionLaws.{set-known, on-either}
-use Rattle.algebra.proofs.SetTests.{on-low, isOn-picks, picks-within, union-within}
+use Rattle.algebra.proofs.UnionLaws.{set-known, on-one, on-either, on-without}
+use Rattle.algebra.proofs.SetTests.{on-low, union-within, dropped-within}
 use Rattle.algebra.proofs.SignLaws.{other-side, nought-side, sides-differ, np-of, neg-zero, dec-pos, signOf-pos, opposite-opposite, plus-nought, minus-nought}
 use Rattle.matroid.specs.Configurations.{Configuration}
 use Rattle.matroid.specs.Circuits.{SignVector, Circuit}
@@ -30,7 +33,7 @@ use Rattle.matroid.specs.Triangulations.{Family, Triangulation}
 use Rattle.matroid.specs.Flips.{Piece, Joins, Link, Supports, Star, Flip}
 use Rattle.matroid.proofs.Search.{Least, least}
 use Rattle.matroid.proofs.Dependent.{somewhere-nowhere, dep-neg}
-use Rattle.matroid.proofs.CircuitLaws.{circuit-against}
+use Rattle.matroid.proofs.CircuitLaws.{support, support-within, on-support, circuit-against}
 
 -- ---- the two sides
 
@@ -43,34 +46,54 @@ module _ {n : ℕ} {P : Configuration} where
       go (inr none) = somewhere-nowhere (z .somewhere)
           (λ i l. neg-zero (z .by i) (nn-sum-zero n (λ j. negℤ (z .by j)) (λ j k. np-of (z .by j) (none j k)) (dep-neg n P (z .by) (z .dependency) .ones) i l))
 
-  some-side : {X : SignVector} → Circuit n P X → (s : Sign) → Side s → (a : ℕ) × (a < n) × (X a ≡ s)
+  pub some-side : {X : SignVector} → Circuit n P X → (s : Sign) → Side s → (a : ℕ) × (a < n) × (X a ≡ s)
   unfolding opposite
   some-side {X} z s (inl e) = let r = some-plus z in (r .0, r .1, r .2 ∙ sym e)
   some-side {X} z s (inr e) = let r = some-plus (circuit-against z) in (r .0, r .1, sym (opposite-opposite (X (r .0))) ∙ ap opposite (r .2) ∙ sym e)
 
 -- ---- pieces, and sets joined
 
+abbrev pub pieceOf : ℕ → SignVector → ℕ → List ℕ
+pieceOf n X a = dropped n a (support n X)
+
+abbrev pub Linked : ℕ → Family → SignVector → Sign → List ℕ → Type 0
+Linked n T X s c = (p : List ℕ) × Piece n X s p × Link n T p c
+
+abbrev pub Holds : ℕ → SignVector → Sign → List ℕ → Type 0
+Holds n X s t = (i : ℕ) → i < n → X i ≡ opposite s → On t i
+
+pub side-nought : {s q : Sign} → Side s → q ≡ s → q ≡ nought → ⊥
+side-nought d e z = nought-side (subst Side (sym e ∙ z) d)
+
 module _ (n : ℕ) (X : SignVector) where
-  -- the circuit's points without the point a
-  pieceOf : ℕ → List ℕ
-  pieceOf a = picks n (λ i. not (isNought (X i)) && not (eqb i a))
+  pub piece-on : (a i : ℕ) → i < n → On (pieceOf n X a) i ↔ ((X i ≡ nought → ⊥) × (i ≡ a → ⊥))
+  piece-on a i l =
+      let on = on-without n a (support n X) (support-within n X) i in
+      (λ o. let (y, ne) = on .0 o in (reflects-yes (on-support n X i) y .1, ne), λ (nz, ne). on .1 (reflects-true (on-support n X i) (l, nz), ne))
 
-  piece-of : (s : Sign) (a : ℕ) → a < n → X a ≡ s → Piece n X s (pieceOf a)
-  unfolding pieceOf
-  piece-of s a l e = (a, l, e, picks-within _ n, λ i k. (λ o. reflects-yes (on i) o .1, λ r. reflects-true (on i) (k, r)))
-    where
-      on : (i : ℕ) → Reflects ((i < n) × ((X i ≡ nought → ⊥) × (i ≡ a → ⊥))) (isOn i (picks n (λ i. not (isNought (X i)) && not (eqb i a))))
-      on i = rw (isOn-picks (λ j. not (isNought (X j)) && not (eqb j a)) n i) (reflects-and (reflects-ltb i n) (reflects-and (reflects-not (is-nought (X i))) (reflects-not (reflects-eqb i a))))
+  abbrev pub piece-of : (s : Sign) (a : ℕ) → a < n → X a ≡ s → Piece n X s (pieceOf n X a)
+  piece-of s a l e = (a, l, e, dropped-within n a (support n X), piece-on a)
 
-  -- a piece of a side holds the other side
-  piece-holds : (s : Sign) → Side s → (p : List ℕ) → Piece n X s p → (i : ℕ) → i < n → X i ≡ opposite s → On p i
-  piece-holds s d p q i l e = q .4 i l .1 (λ z. nought-side (subst Side (sym e ∙ z) (other-side s d)), λ z. sides-differ s d (sym e ∙ ap X z ∙ q .2))
+  -- a piece of a side holds the other side, and so does what it is joined to
+  joined-holds : (s : Sign) → Side s → (p c t : List ℕ) → Piece n X s p → Joins p c t → Holds n X s t
+  joined-holds s d p c t q j i l e = j .0 i .1 (inl (q .4 i l .1 (side-nought (other-side s d) e, λ z. sides-differ s d (sym e ∙ ap X z ∙ q .2))))
 
-  joined-holds : (s : Sign) → Side s → (p c t : List ℕ) → Piece n X s p → Joins p c t → (i : ℕ) → i < n → X i ≡ opposite s → On t i
-  joined-holds s d p c t q j i l e = j .0 i .1 (inl (piece-holds s d p q i l e))
+  pub star-holds : {T : Family} {s : Sign} → Side s → (t : List ℕ) → Star n T X s s t → Holds n X s t
+  star-holds {T} {s} d t r = let (w, (p, c, b, k, l, k′, j)) = r in joined-holds s d b c t k′ j
 
-union-joins : (n : ℕ) (p c : List ℕ) → Within 0 p n → Within 0 c n → ((i : ℕ) → On p i → On c i → ⊥) → Joins p c (union n p c)
+pub union-joins : (n : ℕ) (p c : List ℕ) → Within 0 p n → Within 0 c n → ((i : ℕ) → On p i → On c i → ⊥) → Joins p c (union n p c)
 union-joins n p c v w h = (on-either n p c v w, h)
+
+-- a point and the others
+pub dropped-joins : (n x : ℕ) (t : List ℕ) → Within 0 t n → On t x → Joins (dropped n x t) (x ∷ []) t
+dropped-joins n x t w o = (λ i. (λ y. at i y (ℕ-discrete i x), ⊎-elim (λ y. on i .0 y .0) (λ y. subst (On t) (sym (reflects-yes (on-one x i) y)) o)), λ i y k. on i .0 y .1 (reflects-yes (on-one x i) k))
+  where
+    on : (i : ℕ) → On (dropped n x t) i ↔ (On t i × (i ≡ x → ⊥))
+    on = on-without n x t w
+
+    at : (i : ℕ) → On t i → Dec (i ≡ x) → On (dropped n x t) i ⊎ On (x ∷ []) i
+    at i y (yes e) = inr (reflects-true (on-one x i) e)
+    at i y (no ne) = inl (on i .1 (y, ne))
 
 -- ---- one triangulation
 
@@ -81,7 +104,7 @@ module _ {n : ℕ} {P : Configuration} {T : Family} {X : SignVector} (g : Triang
   sides-apart s (inl e) t u m k h j = g .ip t u m k (record { by = X; circuit = z; left = λ i l q. h i l (q ∙ sym e); right = λ i l q. j i l (q ∙ sym (ap opposite e)) })
   sides-apart s (inr e) t u m k h j = g .ip u t k m (record { by = X; circuit = z; left = λ i l q. j i l (q ∙ sym (ap opposite e)); right = λ i l q. h i l (q ∙ sym e) })
 
-  no-whole : (t : List ℕ) → T t → ((i : ℕ) → i < n → (X i ≡ nought → ⊥) → On t i) → ⊥
+  pub no-whole : (t : List ℕ) → T t → ((i : ℕ) → i < n → (X i ≡ nought → ⊥) → On t i) → ⊥
   no-whole t m h = g .ip t t m m (record { by = X; circuit = z; left = λ i l q. h i l (λ e. plus-nought (sym q ∙ e)); right = λ i l q. h i l (λ e. minus-nought (sym q ∙ e)) })
 
   pub not-both : Supports n T X plus → Supports n T X minus → ⊥
@@ -132,7 +155,7 @@ module _ {n : ℕ} {P : Configuration} {T T′ : Family} {X : SignVector} {s : S
       joins : Joins b c (union n b c)
       joins = union-joins n b c (q′ .3) (v .0) (λ i o o′. let l = on-low b 0 n i (q′ .3) o .1 in link-off g z p c q v i l (q′ .4 i l .0 o .0) o′)
 
-  link-before : (b c : List ℕ) → Piece n X (opposite s) b → Link n T′ b c → (p : List ℕ) × Piece n X s p × Link n T p c
+  link-before : (b c : List ℕ) → Piece n X (opposite s) b → Link n T′ b c → Linked n T X s c
   link-before b c q v = let (w, (t, m, j)) = v in ⊎-elim (λ r. absurd (stayed t j (r .0))) (came t j) (f .exchanged t .0 m)
     where
       stayed : (t : List ℕ) → Joins b c t → T t → ⊥
@@ -141,7 +164,7 @@ module _ {n : ℕ} {P : Configuration} {T T′ : Family} {X : SignVector} {s : S
           sides-apart g z s d t u m m′ (λ i l e. joined-holds n X (opposite s) (other-side s d) b c t q j i l (e ∙ sym (opposite-opposite s))) (joined-holds n X s d p c′ u q′ k)
 
       -- two sets off the circuit that complete pieces to one set are the same
-      came : (t : List ℕ) → Joins b c t → Star n T X s (opposite s) t → (p : List ℕ) × Piece n X s p × Link n T p c
+      came : (t : List ℕ) → Joins b c t → Star n T X s (opposite s) t → Linked n T X s c
       came t j r =
           let (w, (p, c′, b′, q₁, v₁, q₂, k)) = r in
           let e : c′ ≡ c = set-known n c′ c (v₁ .0) (v .0) (λ i l. (

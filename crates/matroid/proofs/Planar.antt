@@ -6,28 +6,28 @@
 --   weights3-a, -b, -c, -off, weights4-a, -b, -c, -d, -off     their values: scalar products with the vector from a to c; the turns of the other three, with alternating signs
 --   weights3-dependency, weights4-dependency     they are dependencies
 --   points-differ         points of different numbers are different
---   two-nowhere, three-nowhere    a dependency that lives on two different points, or on three off a line, is 0 everywhere
+--   three-nowhere         a dependency that lives on three points off a line is 0 everywhere
 --   Planar n P f          f is one of these, its points in order and below n
+--   support-three         a circuit has three points at least
 --
 -- Main theorems: `planar-circuit`; `circuit-planar`: every circuit is one of these, or its opposite.
 use mathlib.Core.Path.{_≡_, refl, sym, _∙_, ap}
 use mathlib.Core.Logic.{_⊎_}
-use mathlib.Core.Bool.{not}
 use mathlib.Core.List.{List, [], _∷_, List·Memᴰ, List·Memᴰ·head, List·Memᴰ·tail, List·Memᴰ·not-nil}
-use Prim.Native.Nat.{ℕ, zero, suc, _<_}
+use Prim.Native.Nat.{ℕ, zero, suc, _<_, _≤_}
 use native.Mathlib.Omega.{arith}
 use native.Mathlib.Decide.{ℕ-discrete, decLt}
 use lib.IntN.{ℤ, pos, negℤ, _-ℤ_, _*ℤ_, negℤ-negℤ, ℤ-discrete}
-use Rattle.algebra.specs.Loops.{picks, tabulate}
-use Rattle.algebra.specs.Answer.{Reflects}
-use Rattle.algebra.specs.Sets.{isOn, Within}
-use Rattle.algebra.specs.Sign.{NZ, nought, signOf, isNought}
+use lib.ListN.{length}
+use Rattle.algebra.specs.Loops.{tabulate}
+use Rattle.algebra.specs.Sets.{Within}
+use Rattle.algebra.specs.Sign.{NZ, nought, signOf}
 use Rattle.algebra.specs.Sum.{sum}
 use Rattle.algebra.proofs.Ring.{Ex, cst, _⊝_, _⊗_, neg, ring}
-use Rattle.algebra.proofs.AnswerLaws.{reflects-yes, reflects-true, reflects-not, reflects-and, reflects-ltb, is-nought}
+use Rattle.algebra.proofs.AnswerLaws.{reflects-yes}
 use Rattle.algebra.proofs.ListLaws.{each-cons, neither}
-use Rattle.algebra.proofs.SetTests.{mem-on, isOn-picks, picks-within}
-use Rattle.algebra.proofs.SignLaws.{mul-zero, neg-zero, signOf-zero, zero-signOf, zero-if}
+use Rattle.algebra.proofs.SetTests.{mem-on}
+use Rattle.algebra.proofs.SignLaws.{mul-zero, neg-zero, signOf-zero, zero-if}
 use Rattle.matroid.specs.Configurations.{Configuration, volume}
 use Rattle.matroid.specs.Points.{Points, plane, Distinct, turn, dot}
 use Rattle.matroid.specs.Dependencies.{Dependency, Somewhere}
@@ -36,7 +36,7 @@ use Rattle.matroid.proofs.Turns.{coordinates, X, Y, D, O, altEx, detEx,
 use Rattle.matroid.proofs.Dependent.{somewhere-nowhere, also-at, one-nowhere, two-same}
 use Rattle.matroid.proofs.Bases.{weights, weights-off, weights-at, weights-under, weigh, weights-dependency, independent, Elementary, one-more, elementary-somewhere, elementary-circuit}
 use Rattle.matroid.proofs.Inside.{Inside}
-use Rattle.matroid.proofs.CircuitLaws.{circuit-off, circuit-like}
+use Rattle.matroid.proofs.CircuitLaws.{support, support-within, on-support, circuit-off, support-off, circuit-like}
 
 abbrev pub along : Points → ℕ → ℕ → Configuration
 along P a c = record { dimension = 1; at = λ i k. dot (P a) (P i) (P c) }
@@ -125,7 +125,7 @@ module _ (n : ℕ) (P : Points) where
   low-3 : {a b c : ℕ} → a < n → b < n → c < n → (i : ℕ) → List·Memᴰ i (a ∷ b ∷ c ∷ []) → i < n
   low-3 x y z = each-cons (_< n) x (each-cons (_< n) y (each-cons (_< n) z (λ i m. absurd (List·Memᴰ·not-nil m))))
 
-  pub weights3-dependency : (a b c : ℕ) → a < n → b < n → c < n → turn (P a) (P b) (P c) ≡ pos 0 → Dependency n (plane P) (weights3 P a b c)
+  weights3-dependency : (a b c : ℕ) → a < n → b < n → c < n → turn (P a) (P b) (P c) ≡ pos 0 → Dependency n (plane P) (weights3 P a b c)
   unfolding tabulate
   weights3-dependency a b c an bn cn e = record { ones = weights-dependency n (along P a c) (a ∷ b ∷ c ∷ []) (low-3 an bn cn) .ones; each = at }
     where
@@ -145,7 +145,7 @@ module _ (n : ℕ) (P : Points) where
   -- ---- on two points, on three
 
   module _ (f : ℕ → ℤ) (h : Dependency n (plane P) f) where
-    pub two-nowhere : (i j : ℕ) → i < n → j < n → (P i ≡ P j → ⊥) → ((m : ℕ) → m < n → (m ≡ i → ⊥) → (m ≡ j → ⊥) → f m ≡ pos 0) → (m : ℕ) → m < n → f m ≡ pos 0
+    two-nowhere : (i j : ℕ) → i < n → j < n → (P i ≡ P j → ⊥) → ((m : ℕ) → m < n → (m ≡ i → ⊥) → (m ≡ j → ⊥) → f m ≡ pos 0) → (m : ℕ) → m < n → f m ≡ pos 0
     two-nowhere i j il jl ne off m ml = also-at f i m (same i j il off ne) (λ ni. also-at f j m (same j i jl (λ k l x y. off k l y x) (λ q. ne (sym q))) (λ nj. off m ml ni nj))
       where
         same : (a b : ℕ) → a < n → ((m : ℕ) → m < n → (m ≡ a → ⊥) → (m ≡ b → ⊥) → f m ≡ pos 0) → (P a ≡ P b → ⊥) → f a ≡ pos 0
@@ -212,6 +212,13 @@ module _ (n : ℕ) (P : Points) (ds : Distinct n P) where
 
   -- ---- every circuit
 
+  -- a dependency that lives on fewer than three points is 0
+  few-nowhere : (f : ℕ → ℤ) → Dependency n (plane P) f → (t : List ℕ) → Within 0 t n → ((i : ℕ) → i < n → (List·Memᴰ i t → ⊥) → f i ≡ pos 0) → length t < 3 → (m : ℕ) → m < n → f m ≡ pos 0
+  few-nowhere f h [] w off e m l = off m l List·Memᴰ·not-nil
+  few-nowhere f h (a ∷ []) w off e m l = also-at f a m (one-nowhere n (plane P) f h a (w .1) (λ i k x. off i k (neither x List·Memᴰ·not-nil))) (λ x. off m l (neither x List·Memᴰ·not-nil))
+  few-nowhere f h (a ∷ b ∷ []) w off e m l = two-nowhere n P f h a b (w .1) (w .2 .1) (ds a b (let k = w .2 .0 in omega arith) (w .2 .1)) (λ i k x y. off i k (none-of-2 x y)) m l
+  few-nowhere f h (a ∷ b ∷ c ∷ t) w off e m l = absurd (omega arith)
+
   -- the first three places of a dependency lie on a line, or there is a fourth
   module _ (f : ℕ → ℤ) (h : Dependency n (plane P) f) (s : Somewhere n f) where
     abbrev Nonzero : ℕ → Type 0
@@ -239,10 +246,9 @@ module _ (n : ℕ) (P : Points) (ds : Distinct n P) where
         }
 
     find : (t : List ℕ) → Within 0 t n → ((i : ℕ) → List·Memᴰ i t → NZ (f i)) → ((i : ℕ) → i < n → (List·Memᴰ i t → ⊥) → f i ≡ pos 0) → Inside (Planar n P) f
-    find [] w on off = somewhere-nowhere s (λ m l. off m l List·Memᴰ·not-nil)
-    find (a ∷ []) w on off = absurd (on a (List·Memᴰ·head refl) (one-nowhere n (plane P) f h a (w .1) (λ m l x. off m l (neither x List·Memᴰ·not-nil))))
-    find (a ∷ b ∷ []) w on off =
-        absurd (on a (List·Memᴰ·head refl) (two-nowhere n P f h a b (w .1) (w .2 .1) (ds a b (let k = w .2 .0 in omega arith) (w .2 .1)) (λ m l x y. off m l (none-of-2 x y)) a (w .1)))
+    find [] w on off = somewhere-nowhere s (few-nowhere f h [] w off (omega arith))
+    find (a ∷ []) w on off = somewhere-nowhere s (few-nowhere f h (a ∷ []) w off (omega arith))
+    find (a ∷ b ∷ []) w on off = somewhere-nowhere s (few-nowhere f h (a ∷ b ∷ []) w off (omega arith))
     find (a ∷ b ∷ c ∷ []) w on off = go (ℤ-discrete (turn (P a) (P b) (P c)) (pos 0))
       where
         go : Dec (turn (P a) (P b) (P c) ≡ pos 0) → Inside (Planar n P) f
@@ -255,13 +261,13 @@ module _ (n : ℕ) (P : Points) (ds : Distinct n P) where
   pub circuit-planar : (X : SignVector) → Circuit n (plane P) X → (f : ℕ → ℤ) × Planar n P f × (Alike n X (λ i. signOf (f i)) ⊎ Alike n X (against (λ i. signOf (f i))))
   circuit-planar X c = (r .part, r .kind, circuit-like n (plane P) X c (r .part) (planar-dependency (r .part) (r .kind)) (planar-somewhere (r .part) (r .kind)) (λ i l e. r .under i (circuit-off c i l e)))
     where
-      -- the points of the circuit
-      points : List ℕ
-      points = picks n (λ j. not (isNought (signOf (c .by j))))
-
-      on : (i : ℕ) → Reflects ((i < n) × (signOf (c .by i) ≡ nought → ⊥)) (isOn i points)
-      on i = rw (isOn-picks (λ j. not (isNought (signOf (c .by j)))) n i) (reflects-and (reflects-ltb i n) (reflects-not (is-nought (signOf (c .by i)))))
-
       r : Inside (Planar n P) (c .by)
-      r = find (c .by) (c .dependency) (c .somewhere) points (picks-within _ n) (λ i m z. reflects-yes (on i) (mem-on i points .0 m) .1 (signOf-zero (c .by i) z))
-          (λ i l o. zero-if (c .by i) (λ z. o (mem-on i points .1 (reflects-true (on i) (l, λ e. z (zero-signOf (c .by i) e))))))
+      r = find (c .by) (c .dependency) (c .somewhere) (support n X) (support-within n X)
+          (λ i m z. let (l, nz) = reflects-yes (on-support n X i) (mem-on i (support n X) .0 m) in nz (c .signs i l ∙ signOf-zero (c .by i) z)) (support-off c)
+
+  pub support-three : (X : SignVector) → Circuit n (plane P) X → 3 ≤ length (support n X)
+  support-three X c = go (decLt (length (support n X)) 3)
+    where
+      go : Dec (length (support n X) < 3) → 3 ≤ length (support n X)
+      go (yes l) = somewhere-nowhere (c .somewhere) (few-nowhere (c .by) (c .dependency) (support n X) (support-within n X) (support-off c) l)
+      go (no l) = omega arith

@@ -27,8 +27,7 @@ use Rattle.shots.proofs.Chains.{shots-numbered}
 use Rattle.circuits.specs.Calls.{countCallOf, circuitRule, circuitCallOf}
 use Rattle.lists.specs.Tests.{listRules}
 use Rattle.lists.specs.Calls.{testOf}
-use Rattle.surfaces.specs.Placing.{placedOf}
-use Rattle.surfaces.specs.Calls.{badResult, placingOf, flipRules, flipOf}
+use Rattle.surfaces.specs.Calls.{placingOf, flipRules, flipOf}
 use Rattle.records.specs.Formats.{patchBytes, surfaceBytes}
 use Rattle.records.specs.Reading.{coordinatesOf, patchFrame, patchRules, surfaceFrame, tripleRule, listedOf}
 use Rattle.records.specs.Calls.{readPatchOf, readSurfaceOf, roomRule, writeOf, writePatchOf, writeSurfaceOf}
@@ -172,11 +171,11 @@ module _ (l : List ℤ) where
 
   pub placing-apart : Apart (placingOf l)
   unfolding placingOf
-  placing-apart = shots-apart l (badResult l (placedOf l) ∷ []) _ (omega arith, tt)
+  placing-apart = shots-apart l [] _ tt
 
   pub flip-apart : (w : List ℕ) (z : ℕ) → Apart (flipOf l w z)
   unfolding flipOf
-  flip-apart w z = list-apart l w (flipRules l w z) _ (omega arith, (omega arith, (omega arith, tt)))
+  flip-apart w z = list-apart l w (flipRules l w z) _ (omega arith, (omega arith, tt))
 
   pub start-apart : (w t : List ℕ) (r : Walk) → Apart (startCalled l w t r .answer)
   start-apart w t r = ground-start-apart (plane l) t (readWalk r) w (test-apart w)

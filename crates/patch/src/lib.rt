@@ -10,10 +10,10 @@
 //   patch_circuits         C, the number of circuits                         1-4
 //   patch_circuit          the two sides of circuit z                        1-4, 12
 //   patch_test             is the list a triangulation?                      1-4, 7 10 8 9
-//   patch_placing          the placing surface                               1-4, 14
-//   patch_flip             the list flipped along circuit z, in its place    1-4, 7 10 8 9, 12 13 14
+//   patch_placing          the placing surface                               1-4
+//   patch_flip             the list flipped along circuit z, in its place    1-4, 7 10 8 9, 12 13
 //   patch_start            a walk begins at the list                         1-4, 7 10 8 9, 11
-//   patch_step, patch_run  the next step, the next steps                     1-4, 15, the row's 7 10 8 9, 14, 11
+//   patch_step, patch_run  the next step, the next steps                     1-4, 15, the row's 7 10 8 9, 11
 //   patch_read_patch       the shots of a patch record                       5 6 1 5 2 3 4
 //   patch_write_patch      the record of a patch                             1-4, 11
 //   patch_read_surface     the list of a surface record                      1-4, 5 6 7 5 7 10 8 9

@@ -13,7 +13,8 @@
 --   start-refused, start-full, start-writes, start-facts    a start, by the test's answer and by the room; what is true where it was made
 --   done-made, made-dec              done is not made; whether an answer is made
 --   Goes g t w n l                   what n steps that are made leave: the step number is higher by n, there are as many rows or more, there is room for them still,
---                                    the step number is still at most rows × C, and the earlier rows stay as they were
+--                                    the step number is still at most rows × C, the earlier rows stay as they were, and each row that was written is a flip of some list
+--   SomeFlip g r                     r is what the flip makes of some list of as many words
 --   goes-none, goes-on, step-goes    no step, one more, one: each goes so where it is made
 --   goes-possible                    a record that was possible is so after them
 --   step-unmade, step-keeps, done-keeps, start-keeps    a call that is not made changes nothing
@@ -27,6 +28,7 @@ use mathlib.Core.Bool.{Bool, true, false, cond}
 use mathlib.Core.List.{List, [], _∷_}
 use Prim.Native.Nat.{ℕ, suc, _+_, _*_, _/_, _%_, _<_, _≤_}
 use native.Mathlib.Omega.{arith}
+use native.Mathlib.Decide.{decLt}
 use native.Mathlib.Nat.{min-le-left, mul-le-mul-left, mul-le-mul-right, mul-div-le}
 use lib.Dec.{eqb}
 use lib.ListN.{length}
@@ -38,11 +40,11 @@ use Rattle.algebra.proofs.AnswerLaws.{given-refused, chain-broken, chain-kept, 
 use Rattle.algebra.proofs.AnswerLaws.{reflects-yes, reflects-no, reflects-true, reflects-false, reflects-or, reflects-eqb, reflects-ltb}
 use Rattle.algebra.proofs.LoopLaws.{reflects-any}
 use Rattle.algebra.proofs.SetTests.{reflects-same}
-use Rattle.algebra.proofs.WordLaws.{row-length, row-other, setRow-length}
+use Rattle.algebra.proofs.WordLaws.{row-length, row-same, row-other, setRow-length}
 use Rattle.reach.specs.Walks.{Ground, WalkRecord, Reply, started, made, done, Landing, leaves, onlyIf, rowsMost, capacityOf, seenIn, impossible, walkRules, counted, grown}
 use Rattle.reach.specs.Walks.{storeOf, afterFlip, tryOf, stepOf, stepsOf, runOf, begin, startOf}
 use Rattle.reach.specs.Reach.{Stands}
-use Rattle.reach.specs.Walked.{Keeps}
+use Rattle.reach.specs.Walked.{FlipsTo, Keeps}
 
 -- ---- rows
 
@@ -198,25 +200,34 @@ made-dec (gives made) = yes refl
 made-dec (gives done) = no done-made
 made-dec (refuses n) = no (λ e. given-refused (sym e))
 
+abbrev pub SomeFlip : Ground → List ℕ → Type 0
+SomeFlip g r′ = (r : List ℕ) × (z : ℕ) × (length r ≡ g .words) × FlipsTo g r z r′
+
 pub record Goes (g : Ground) (t : List ℕ) (w : WalkRecord) (n : ℕ) (l : Landing) : Type 0 where
   pub counts : l .walk .step ≡ w .step + n
   pub grows : w .rows ≤ l .walk .rows
   pub room : w .rows ≤ capacityOf (g .words) (length t) → l .walk .rows ≤ capacityOf (g .words) (length (l .table))
   pub below : w .step ≤ w .rows * g .circuits → l .walk .step ≤ l .walk .rows * g .circuits
   pub stay : Keeps g → (p : ℕ) → p < w .rows → rowOf (g .words) (l .table) p ≡ rowOf (g .words) t p
+  pub wrote : Keeps g → w .rows ≤ capacityOf (g .words) (length t) → (p : ℕ) → w .rows ≤ p → p < l .walk .rows → SomeFlip g (rowOf (g .words) (l .table) p)
 
 module _ {g : Ground} {t : List ℕ} {w : WalkRecord} where
   pub goes-none : Goes g t w 0 (leaves t w (gives made))
-  goes-none = record { counts = omega arith; grows = omega arith; room = λ h. h; below = λ h. h; stay = λ k p l. refl }
+  goes-none = record { counts = omega arith; grows = omega arith; room = λ h. h; below = λ h. h; stay = λ k p l. refl; wrote = λ k f p h l. absurd (omega arith) }
 
   pub goes-on : {l m : Landing} (n : ℕ) → Goes g t w 1 l → Goes g (l .table) (l .walk) n m → Goes g t w (suc n) m
-  goes-on n a b = record {
+  goes-on {l} {m} n a b = record {
     counts = let c = a .counts in let d = b .counts in omega arith;
     grows = let c = a .grows in let d = b .grows in omega arith;
     room = λ h. b .room (a .room h);
     below = λ h. b .below (a .below h);
     stay = λ k p l. b .stay k p (let c = a .grows in omega arith) ∙ a .stay k p l;
+    wrote = λ k f p h i. wrote-on k f p h i (decLt p (l .walk .rows));
   }
+    where
+      wrote-on : Keeps g → w .rows ≤ capacityOf (g .words) (length t) → (p : ℕ) → w .rows ≤ p → p < m .walk .rows → Dec (p < l .walk .rows) → SomeFlip g (rowOf (g .words) (m .table) p)
+      wrote-on k f p h i (yes j) = subst (SomeFlip g) (sym (b .stay k p j)) (a .wrote k f p h j)
+      wrote-on k f p h i (no j) = b .wrote k (a .room f) p (omega arith) i
 
   pub goes-possible : {n : ℕ} {l : Landing} → Goes g t w n l → impossible (capacityOf (g .words) (length t)) w (g .circuits) ≡ false
       → impossible (capacityOf (g .words) (length (l .table))) (l .walk) (g .circuits) ≡ false
@@ -235,7 +246,7 @@ module _ (g : Ground) (t : List ℕ) (w : WalkRecord) where
   -- where a circuit is left to try
   module _ (ne : w .step ≡ w .rows * g .circuits → ⊥) where
     outcome-counted : Outcome g t w (leaves t (counted w) (gives made))
-    outcome-counted = goes t (counted w) (record { counts = refl; grows = omega arith; room = λ h. h; below = λ h. omega arith; stay = λ k p l. refl })
+    outcome-counted = goes t (counted w) (record { counts = refl; grows = omega arith; room = λ h. h; below = λ h. omega arith; stay = λ k p l. refl; wrote = λ k f p h l. absurd (omega arith) })
 
     outcome-grown : (r : List ℕ) → tried ≡ gives r → (w .rows ≡ capacityOf (g .words) (length t) → ⊥) → Outcome g t w (leaves (setRow t (w .rows) r) (grown w) (gives made))
     outcome-grown r f full =
@@ -245,8 +256,15 @@ module _ (g : Ground) (t : List ℕ) (w : WalkRecord) where
           grows = omega arith;
           room = λ h. rw setRow-length (omega arith);
           below = λ h. let m = mul-le-mul-right (g .circuits) (let i : w .rows ≤ w .rows + 1 = omega arith in i) in omega arith;
-          stay = λ k p l. row-other (g .words) t (w .rows) p r (k _ r _ (row-length (g .words) t (w .step / g .circuits)) f) (λ q. omega arith);
+          stay = λ k p l. row-other (g .words) t (w .rows) p r (size k) (λ q. omega arith);
+          wrote = λ k h p a b. subst (SomeFlip g) (written k (omega arith) p (omega arith)) (_, _, row-length (g .words) t (w .step / g .circuits), f);
         })
+      where
+        size : Keeps g → length r ≡ g .words
+        size k = k _ r _ (row-length (g .words) t (w .step / g .circuits)) f
+
+        written : Keeps g → w .rows < capacityOf (g .words) (length t) → (p : ℕ) → w .rows ≡ p → r ≡ rowOf (g .words) (setRow t (w .rows) r) p
+        written k h p e = sym (row-same (g .words) t (w .rows) r (size k) (room-for (g .words) (length t) (w .rows) h)) ∙ ap (rowOf (g .words) (setRow t (w .rows) r)) e
 
     outcome-store : (r : List ℕ) → tried ≡ gives r → Outcome g t w (storeOf (g .words) t w r)
     unfolding storeOf

@@ -61,7 +61,7 @@ pub fn prepare(shots: &[i32], plus: &mut [u16], minus: &mut [u16], held: &mut [u
     count
 }
 
-// The flip of an accepted list along circuit z, its result not yet tested.
+// The flip of an accepted list along circuit z.
 pub fn turn(
     shots: &[i32],
     plus: &[u16],
@@ -72,7 +72,7 @@ pub fn turn(
     z: usize,
 ) -> Turned
     requires { ⌜ (refusalOf (now shots) ≡ 0) × Ready (now shots) (now plus) (now minus) (now held) × (count ≡ length (circuitsOf (now shots))) × (listRefusalOf (now shots) (wordsOf list) ≡ 0) × (z < count) ⌝ }
-    ensures { λ r. ⌜ foundAnswer (now (shots .entry)) (r .found) (wordsOf (r .list)) ≡ flipOf (now (shots .entry)) (wordsOf list) z ⌝ }
+    ensures { λ r. ⌜ foundAnswer (r .found) (wordsOf (r .list)) ≡ flipOf (now (shots .entry)) (wordsOf list) z ⌝ }
 {
     flips::between(
         held,

@@ -6,27 +6,23 @@
 --   rows-fit                     its rows fit into the table
 --   walk-not-made, walk-not-started    it is never only made, nor started anew: it ends done, or is refused
 use mathlib.Core.Path.{_≡_, sym, _∙_, ap, subst}
-use mathlib.Core.List.{List, [], _∷_}
+use mathlib.Core.List.{List}
 use Prim.Native.Nat.{ℕ, _<_, _≤_}
 use native.Mathlib.Omega.{arith}
 use native.Mathlib.Nat.{mul-le-mul-left}
 use lib.ListN.{length, replicate, length-replicate}
 use lib.IntN.{ℤ}
 use Rattle.algebra.specs.Answer.{gives}
-use Rattle.algebra.proofs.AnswerLaws.{clear-append}
 use Rattle.reach.specs.Walks.{started, made, Landing, rowsMost, capacityOf}
 use Rattle.reach.specs.Walked.{Walked, starts, runs}
 use Rattle.reach.proofs.TableLaws.{run-long, start-long}
 use Rattle.reach.proofs.StepLaws.{start-writes}
 use Rattle.reach.proofs.Theorem.{walk-listing, run-ends, run-never-started}
-use Rattle.shots.specs.Lines.{shotLines}
 use Rattle.shots.proofs.Patch.{patch-few}
 use Rattle.circuits.proofs.Bounds.{circuits-most}
 use Rattle.triples.specs.Sizes.{wordCount}
 use Rattle.lists.specs.Calls.{testOf}
 use Rattle.lists.proofs.Promises.{shots-kept, test-accepts}
-use Rattle.surfaces.specs.Placing.{placedOf}
-use Rattle.surfaces.specs.Lines.{Accepted}
 use Rattle.surfaces.specs.Calls.{placingOf}
 use Rattle.surfaces.proofs.Promises.{placing-gives, placing-accepted}
 use Rattle.walks.specs.Calls.{plane}
@@ -40,9 +36,8 @@ walk-long l w = run-long (plane l) (begunOf l w .table) (begunOf l w .walk) step
 
 pub placing-tested : (l : List ℤ) (w : List ℕ) → placingOf l ≡ gives w → testOf l w ≡ gives tt
 placing-tested l w e =
-    let c = clear-append (shotLines l) (record { number = 14; when = Accepted l (placedOf l) → ⊥ } ∷ []) .0 (placing-gives l w .0 e .0) in
     let a = placing-accepted l w e in
-    test-accepts l w .1 (c .0, a .0, a .1)
+    test-accepts l w .1 (placing-gives l w .0 e .0, a .0, a .1)
 
 abbrev zeros : List ℕ
 zeros = replicate tableWords 0

@@ -428,7 +428,7 @@ module _ (n m : ℕ) (w : List ℕ) (ps qs : List (List ℕ)) (v : length w ≡ 
     where
       go : Dec (r < wordBits * length w) → member (exchanged n w ps qs) r ≡ false
       go (yes l) = member-sift (length w) (λ r. (member w r && not (joins n w ps ps r)) || joins n w ps qs r) r l ∙ rw (e, le-ltb r (tripleCount n) h) refl
-      go (no l) = member-past m (exchanged n w ps qs) r exchanged-words (omega arith)
+      go (no l) = member-past (exchanged n w ps qs) r (let q = exchanged-words .0 in omega arith)
 
 -- ---- lists with the same triples
 

@@ -325,7 +325,7 @@ module _ (l : List ℤ) where
 pub flip-keeps-area : (l : List ℤ) (w w′ : List ℕ) (z : ℕ) → Words wordCount w → flipOf l w z ≡ gives w′ → areaSumOf l w′ ≡ areaSumOf l w
 unfolding flippedOf opposite
 flip-keeps-area l w w′ z v e =
-    let (c, a, h, f, a′) = flip-published l w w′ z v (flip-words l w w′ z (v .0) e) .0 e in
+    let (c, a, h, f, _) = flip-published l w w′ z v (flip-words l w w′ z (v .0) e) .0 e in
     ap (areaSumOf l) (sym (flip-gives l w z w′ .0 e .1)) ∙ go (shots-kept l c) a h f (supports-published (numbered l z h) w plus (inl refl))
   where
     go : {b : Bool} → refusalOf l ≡ 0 → Accepted l w → z < length (circuitsOf l) → Flipped (countOf l) (Listed (countOf l) w) (signsOf l z) (Listed (countOf l) w′)

@@ -1,21 +1,24 @@
 -- How the code places a shot, by sets of triples in words: its sets and tests are those of specs/Placing. Shots i and j are an edge with i < j,
 -- n is the number of shots, at most `shotsMost`.
 --
+--   corner-ranked                       the triple of i, j and m has a rank
 --   corner-rank                         the only triple that holds i, j and m is the one of them
 --   corner-put                          a list joined with the triples that hold i, j and m has that triple put in
 --   sign-nought, sign-turned, signs-opposed    the code's test of two signs is `opposed`
 --   first-off-low                       the third of the first three shots comes after 0 and 1
 --   begin-corner                        the triples that hold these three are the list that begins
+--   LoneAcross l w m i j v              v is the only third shot of i and j, and m lies across the edge from it; `visible-lone`: `visible` decides that there is one
 --   visible-apart                       no shot sees an edge of its own
+--   third-decided                       `thirdIn` decides that three shots are a triple of the list
 --   by-sees                             the code's test of an edge is `visible`
 --   with-edge-yes, with-edge-no         a list with the triple of a visible edge, and without
 use mathlib.Core.Path.{_≡_, refl, sym, _∙_, ap, subst}
-use mathlib.Core.Logic.{_⊎_, inl, inr}
+use mathlib.Core.Logic.{_⊎_, inl, inr, ⊎-elim}
 use mathlib.Core.Bool.{Bool, true, false, not, _||_, _&&_, true≢false, false≢true}
 use mathlib.Core.List.{List, [], _∷_}
 use Prim.Native.Nat.{ℕ, zero, suc, _*_, _≤_, _<_}
 use native.Mathlib.Omega.{arith}
-use native.Mathlib.Decide.{decLt, ℕ-discrete}
+use native.Mathlib.Decide.{decLt}
 use lib.Dec.{eqb}
 use lib.ListN.{length, replicate}
 use lib.IntN.{ℤ, pos, _-ℤ_}
@@ -24,18 +27,19 @@ use mir.Syntax.{w8}
 use mir.Val.{SFits, toZ, ofZ}
 use Rattle.algebra.specs.Answer.{Reflects}
 use Rattle.algebra.specs.Loops.{any, first}
-use Rattle.algebra.specs.Sets.{isOn, On, union, Within}
+use Rattle.algebra.specs.Sets.{isOn, On, Within}
 use Rattle.algebra.specs.Sign.{Sign, minus, nought, plus, opposite, value, isNought, sameSign}
 use Rattle.algebra.specs.Words.{wordBits, Words, member, putIn, bothOf, eitherOf, meetsOf, aloneOf}
 use Rattle.algebra.proofs.SignLaws.{zero-signOf}
 use Rattle.algebra.proofs.SizeLaws.{signs-same, sign-is-nought}
-use Rattle.algebra.proofs.AnswerLaws.{reflects-yes, reflects-true, reflects-agree, reflects-iff, reflects-not, reflects-or, reflects-and, reflects-ltb, reflects-eqb, is-nought}
-use Rattle.algebra.proofs.LoopLaws.{and-parts, any-some, any-no, reflects-any, reflects-test, first-passes, first-least}
-use Rattle.algebra.proofs.SetTests.{reflects-on, on-union, union-within, on-low, subset-length, subset-same}
+use Rattle.algebra.proofs.AnswerLaws.{reflects-yes, reflects-true, reflects-agree, reflects-iff, reflects-not, reflects-and, reflects-eqb, is-nought}
+use Rattle.algebra.proofs.LoopLaws.{and-parts, any-some, any-no, reflects-any, reflects-test, reflects-alone, first-passes, first-least}
+use Rattle.algebra.proofs.SetTests.{reflects-on, union-within, on-low, subset-length, subset-same}
 use Rattle.algebra.proofs.UnionLaws.{on-one, on-pair, union-apart, union-meets, third-last}
 use Rattle.algebra.proofs.WordLaws.{words-same, sift-words, put-words, member-put, both-words, either-words, both-member, member-either, meets-reflects, alone-reflects}
 use Rattle.matroid.specs.Points.{Collinear, turn}
 use Rattle.matroid.proofs.Lines.{line-through}
+use Rattle.matroid.proofs.Trios.{Among, trio, on-trio, trio-holds}
 use Rattle.shots.specs.Sizes.{shotsMost}
 use Rattle.shots.specs.Coordinates.{pointOf, areaOf}
 use Rattle.shots.specs.Patch.{countOf, orientOf}
@@ -54,19 +58,13 @@ use Rattle.surfaces.proofs.Agreement.{listed-decided}
 
 -- ---- the triple of three shots
 
-abbrev corner : ℕ → ℕ → ℕ → ℕ → List ℕ
-corner n i j v = union n (i ∷ j ∷ []) (v ∷ [])
-
-on-corner : (n i j v k : ℕ) → Reflects ((k < n) × (((k ≡ i) ⊎ (k ≡ j)) ⊎ (k ≡ v))) (isOn k (corner n i j v))
-on-corner n i j v k = rw (on-union n (i ∷ j ∷ []) (v ∷ []) k) (reflects-and (reflects-ltb k n) (reflects-or (on-pair i j k) (on-one v k)))
-
 pair-within : (n i j : ℕ) → i < j → j < n → Within 0 (i ∷ j ∷ []) n
 pair-within n i j ij jn = (omega arith, omega arith, (omega arith, jn, tt))
 
 one-within : (n v : ℕ) → v < n → Within 0 (v ∷ []) n
 one-within n v vn = (omega arith, vn, tt)
 
-corner-size : (n i j v : ℕ) → i < j → j < n → v < n → (v ≡ i → ⊥) → (v ≡ j → ⊥) → length (corner n i j v) ≡ 3
+corner-size : (n i j v : ℕ) → i < j → j < n → v < n → (v ≡ i → ⊥) → (v ≡ j → ⊥) → length (trio n i j v) ≡ 3
 corner-size n i j v ij jn vn vi vj =
     union-apart n (i ∷ j ∷ []) (v ∷ []) (pair-within n i j ij jn) (one-within n v vn) (λ k o p. apart (reflects-yes (on-one v k) p) (reflects-yes (on-pair i j k) o))
   where
@@ -75,33 +73,33 @@ corner-size n i j v ij jn vn vi vj =
     apart e (inr q) = vj (sym e ∙ q)
 
 module _ (n i j m : ℕ) (ij : i < j) (jn : j < n) (mn : m < n) (mi : m ≡ i → ⊥) (mj : m ≡ j → ⊥) where
-  corner-ranked : (rankOf n (corner n i j m) < tripleCount n) × (tripleAt n (rankOf n (corner n i j m)) ≡ corner n i j m)
-  corner-ranked = triple-of-rank n (corner n i j m) (union-within n (i ∷ j ∷ []) (m ∷ [])) (corner-size n i j m ij jn mn mi mj)
+  pub corner-ranked : (rankOf n (trio n i j m) < tripleCount n) × (tripleAt n (rankOf n (trio n i j m)) ≡ trio n i j m)
+  corner-ranked = triple-of-rank n (trio n i j m) (union-within n (i ∷ j ∷ []) (m ∷ [])) (corner-size n i j m ij jn mn mi mj)
 
-  pub corner-rank : (r : ℕ) → (isOn i (tripleAt n r) && isOn j (tripleAt n r) && isOn m (tripleAt n r)) ≡ eqb r (rankOf n (union n (i ∷ j ∷ []) (m ∷ [])))
+  pub corner-rank : (r : ℕ) → (isOn i (tripleAt n r) && isOn j (tripleAt n r) && isOn m (tripleAt n r)) ≡ eqb r (rankOf n (trio n i j m))
   corner-rank r =
       reflects-agree
       (reflects-iff (into, out) (reflects-and (reflects-and (reflects-on i (tripleAt n r)) (reflects-on j (tripleAt n r))) (reflects-on m (tripleAt n r))))
-      (reflects-eqb r (rankOf n (corner n i j m)))
+      (reflects-eqb r (rankOf n (trio n i j m)))
     where
-      into : (On (tripleAt n r) i × On (tripleAt n r) j) × On (tripleAt n r) m → r ≡ rankOf n (corner n i j m)
+      into : (On (tripleAt n r) i × On (tripleAt n r) j) × On (tripleAt n r) m → r ≡ rankOf n (trio n i j m)
       into h =
           let l = on-ranked n r m (h .1) in
           let w = triple-at-within n r l in
           sym (rank-of-triple n r l)
           ∙ ap (rankOf n)
-          (sym (subset-same (corner n i j m) (tripleAt n r) n (union-within n (i ∷ j ∷ []) (m ∷ [])) (w .0) (λ k o. inside k (reflects-yes (on-corner n i j m k) o .1))
+          (sym (subset-same (trio n i j m) (tripleAt n r) n (union-within n (i ∷ j ∷ []) (m ∷ [])) (w .0) (λ k o. inside k (reflects-yes (on-trio n i j m k) o .1))
           (corner-size n i j m ij jn mn mi mj ∙ sym (w .1))))
         where
-          inside : (k : ℕ) → ((k ≡ i) ⊎ (k ≡ j)) ⊎ (k ≡ m) → On (tripleAt n r) k
-          inside k (inl (inl e)) = subst (On (tripleAt n r)) (sym e) (h .0 .0)
-          inside k (inl (inr e)) = subst (On (tripleAt n r)) (sym e) (h .0 .1)
-          inside k (inr e) = subst (On (tripleAt n r)) (sym e) (h .1)
+          inside : (k : ℕ) → Among i j m k → On (tripleAt n r) k
+          inside k (inl e) = subst (On (tripleAt n r)) (sym e) (h .0 .0)
+          inside k (inr (inl e)) = subst (On (tripleAt n r)) (sym e) (h .0 .1)
+          inside k (inr (inr e)) = subst (On (tripleAt n r)) (sym e) (h .1)
 
-      out : r ≡ rankOf n (corner n i j m) → (On (tripleAt n r) i × On (tripleAt n r) j) × On (tripleAt n r) m
+      out : r ≡ rankOf n (trio n i j m) → (On (tripleAt n r) i × On (tripleAt n r) j) × On (tripleAt n r) m
       out e =
           subst (λ (t : List ℕ). (On t i × On t j) × On t m) (sym (ap (tripleAt n) e ∙ corner-ranked .1))
-          ((reflects-true (on-corner n i j m i) (omega arith, inl (inl refl)), reflects-true (on-corner n i j m j) (jn, inl (inr refl))), reflects-true (on-corner n i j m m) (mn, inr refl))
+          ((reflects-true (on-trio n i j m i) (omega arith, inl refl), reflects-true (on-trio n i j m j) (jn, inr (inl refl))), reflects-true (on-trio n i j m m) (mn, inr (inr refl)))
 
 -- ---- the sets of the code
 
@@ -123,19 +121,19 @@ member-edge : (n i j r : ℕ) → r < wordBits * wordCount → member (edgeSet n
 member-edge n i j r h = both-member wordCount (holdersOf n i) (holdersOf n j) (holders-words n i) r ∙ (λ t. member-holders n i r h t && member-holders n j r h t)
 
 module _ (n i j m : ℕ) (few : n ≤ shotsMost) (ij : i < j) (jn : j < n) (mn : m < n) (mi : m ≡ i → ⊥) (mj : m ≡ j → ⊥) where
-  corner-low : rankOf n (corner n i j m) < wordBits * wordCount
+  corner-low : rankOf n (trio n i j m) < wordBits * wordCount
   corner-low = let h = corner-ranked n i j m ij jn mn mi mj .0 in let k = room n few in omega arith
 
-  member-corner : (r : ℕ) → r < wordBits * wordCount → member (cornerSet n i j m) r ≡ eqb r (rankOf n (corner n i j m))
+  member-corner : (r : ℕ) → r < wordBits * wordCount → member (cornerSet n i j m) r ≡ eqb r (rankOf n (trio n i j m))
   member-corner r h =
       both-member wordCount (edgeSet n i j) (holdersOf n m) (edge-words n i j) r ∙ (λ t. member-edge n i j r h t && member-holders n m r h t) ∙ corner-rank n i j m ij jn mn mi mj r
 
-  pub corner-put : (u : List ℕ) → Words wordCount u → eitherOf u (bothOf (bothOf (holdersOf n i) (holdersOf n j)) (holdersOf n m)) ≡ putIn u (rankOf n (union n (i ∷ j ∷ []) (m ∷ [])))
+  pub corner-put : (u : List ℕ) → Words wordCount u → eitherOf u (bothOf (bothOf (holdersOf n i) (holdersOf n j)) (holdersOf n m)) ≡ putIn u (rankOf n (trio n i j m))
   corner-put u v =
-      words-same wordCount (eitherOf u (cornerSet n i j m)) (putIn u (rankOf n (corner n i j m)))
-      (either-words wordCount u (cornerSet n i j m) v) (put-words wordCount u (rankOf n (corner n i j m)) v)
+      words-same wordCount (eitherOf u (cornerSet n i j m)) (putIn u (rankOf n (trio n i j m)))
+      (either-words wordCount u (cornerSet n i j m) v) (put-words wordCount u (rankOf n (trio n i j m)) v)
       (λ r h. member-either u (cornerSet n i j m) r (let e = v .0 in omega arith) ∙ ap (λ (b : Bool). member u r || b) (member-corner r h)
-      ∙ sym (member-put wordCount u (rankOf n (corner n i j m)) r v corner-low))
+      ∙ sym (member-put wordCount u (rankOf n (trio n i j m)) r v corner-low))
 
 -- the set with nothing in it
 either-none : (v : List ℕ) → Words wordCount v → eitherOf (replicate wordCount 0) v ≡ v
@@ -240,12 +238,21 @@ module _ (l : List ℤ) (ok : refusalOf l ≡ 0) where
 signed-apart : (l : List ℤ) (i j v : ℕ) → (orientOf l i j v ≡ nought → ⊥) → (v ≡ i → ⊥) × (v ≡ j → ⊥)
 signed-apart l i j v h = (λ e. h (orient-repeated l i j v (inr (inr (sym e)))), λ e. h (orient-repeated l i j v (inr (inl (sym e)))))
 
-pub visible-apart : (l : List ℤ) (w : List ℕ) (m i j : ℕ) → visible l w m i j ≡ true → (m ≡ i → ⊥) × (m ≡ j → ⊥)
-unfolding visible
-visible-apart l w m i j h =
-    let q = any-some (λ v. loneThird (countOf l) w i j v && opposed (orientOf l i j v) (orientOf l i j m)) (countOf l) h in
-    let o = and-parts (loneThird (countOf l) w i j (q .0)) (opposed (orientOf l i j (q .0)) (orientOf l i j m)) (q .2) .1 in
-    signed-apart l i j m (opposed-signed (orientOf l i j (q .0)) (orientOf l i j m) o .1)
+module _ (l : List ℤ) (w : List ℕ) (m i j : ℕ) where
+  abbrev pub LoneAcross : ℕ → Type 0
+  LoneAcross v = ((thirdIn (countOf l) w i j v ≡ true) × ((u : ℕ) → u < countOf l → thirdIn (countOf l) w i j u ≡ true → u ≡ v)) × (opposed (orientOf l i j v) (orientOf l i j m) ≡ true)
+
+  pub visible-lone : Reflects ((v : ℕ) × (v < countOf l) × LoneAcross v) (visible l w m i j)
+  unfolding visible loneThird
+  visible-lone = reflects-any LoneAcross (λ v. loneThird (countOf l) w i j v && opposed (orientOf l i j v) (orientOf l i j m)) (countOf l)
+      (λ v _. reflects-and (reflects-and (reflects-test (thirdIn (countOf l) w i j v)) (reflects-alone (thirdIn (countOf l) w i j) (countOf l) v)) (reflects-test (opposed (orientOf l i j v) (orientOf l i j m))))
+
+  pub visible-apart : visible l w m i j ≡ true → (m ≡ i → ⊥) × (m ≡ j → ⊥)
+  visible-apart h = let (v, _, (_, o)) = reflects-yes visible-lone h in signed-apart l i j m (opposed-signed (orientOf l i j v) (orientOf l i j m) o .1)
+
+pub third-decided : (n : ℕ) (w : List ℕ) (i j v : ℕ) → Reflects (Listed n w (trio n i j v)) (thirdIn n w i j v)
+unfolding thirdIn
+third-decided n w i j v = listed-decided n w (trio n i j v)
 
 -- the triples of a list that hold an edge
 abbrev star : ℕ → ℕ → ℕ → List ℕ → List ℕ
@@ -253,16 +260,14 @@ star n i j w = bothOf (edgeSet n i j) w
 
 -- the third shots of an edge
 module _ (n i j : ℕ) (w : List ℕ) (ij : i < j) (jn : j < n) where
-  third-in : (v : ℕ) → v < n → (v ≡ i → ⊥) × (v ≡ j → ⊥) → member w (rankOf n (corner n i j v)) ≡ true → thirdIn n w i j v ≡ true
-  unfolding thirdIn
-  third-in v vn ne h = let q = corner-ranked n i j v ij jn vn (ne .0) (ne .1) in reflects-true (listed-decided n w (corner n i j v)) (rankOf n (corner n i j v), q .0, h, q .1)
+  third-in : (v : ℕ) → v < n → (v ≡ i → ⊥) × (v ≡ j → ⊥) → member w (rankOf n (trio n i j v)) ≡ true → thirdIn n w i j v ≡ true
+  third-in v vn ne h = let q = corner-ranked n i j v ij jn vn (ne .0) (ne .1) in reflects-true (third-decided n w i j v) (rankOf n (trio n i j v), q .0, h, q .1)
 
-  third-out : (v : ℕ) → v < n → thirdIn n w i j v ≡ true → ((v ≡ i → ⊥) × (v ≡ j → ⊥)) × (member w (rankOf n (corner n i j v)) ≡ true)
-  unfolding thirdIn
+  third-out : (v : ℕ) → v < n → thirdIn n w i j v ≡ true → ((v ≡ i → ⊥) × (v ≡ j → ⊥)) × (member w (rankOf n (trio n i j v)) ≡ true)
   third-out v vn h = ((λ e. off (inl e), λ e. off (inr e)), ap (member w) (ap (rankOf n) (sym (q .3)) ∙ rank-of-triple n (q .0) (q .1)) ∙ q .2)
     where
-      q : Listed n w (corner n i j v)
-      q = reflects-yes (listed-decided n w (corner n i j v)) h
+      q : Listed n w (trio n i j v)
+      q = reflects-yes (third-decided n w i j v) h
 
       -- the shots of the edge with one of them again are no triple
       off : (v ≡ i) ⊎ (v ≡ j) → ⊥
@@ -272,16 +277,11 @@ module _ (n i j : ℕ) (w : List ℕ) (ij : i < j) (jn : j < n) where
           omega arith
 
   -- two third shots with one triple
-  third-one : (u v : ℕ) → u < n → v < n → (u ≡ i → ⊥) × (u ≡ j → ⊥) → (v ≡ i → ⊥) × (v ≡ j → ⊥) → rankOf n (corner n i j u) ≡ rankOf n (corner n i j v) → u ≡ v
-  third-one u v un vn nu nv e = go (reflects-yes (on-corner n i j v u) (ap (isOn u) (sym same) ∙ reflects-true (on-corner n i j u u) (un, inr refl)) .1)
+  third-one : (u v : ℕ) → u < n → v < n → (u ≡ i → ⊥) × (u ≡ j → ⊥) → (v ≡ i → ⊥) × (v ≡ j → ⊥) → rankOf n (trio n i j u) ≡ rankOf n (trio n i j v) → u ≡ v
+  third-one u v un vn nu nv e = ⊎-elim (λ q. absurd (nu .0 q)) (⊎-elim (λ q. absurd (nu .1 q)) (λ q. q)) (trio-holds n i j u i j v (omega arith) jn un same .2)
     where
-      same : corner n i j u ≡ corner n i j v
+      same : trio n i j u ≡ trio n i j v
       same = sym (corner-ranked n i j u ij jn un (nu .0) (nu .1) .1) ∙ ap (tripleAt n) e ∙ corner-ranked n i j v ij jn vn (nv .0) (nv .1) .1
-
-      go : ((u ≡ i) ⊎ (u ≡ j)) ⊎ (u ≡ v) → u ≡ v
-      go (inl (inl q)) = absurd (nu .0 q)
-      go (inl (inr q)) = absurd (nu .1 q)
-      go (inr q) = q
 
   -- a triple has a shot that is not of the edge
   has-third : (r : ℕ) → r < tripleCount n → (u : ℕ) × (u < n) × ((u ≡ i → ⊥) × (u ≡ j → ⊥)) × On (tripleAt n r) u
@@ -318,29 +318,29 @@ module _ (n i j : ℕ) (w : List ℕ) (ij : i < j) (jn : j < n) where
 
   -- a member of the star with a third shot
   star-third : (r u : ℕ) → r < wordBits * wordCount → member (star n i j w) r ≡ true → u < n → (u ≡ i → ⊥) × (u ≡ j → ⊥) → On (tripleAt n r) u
-      → (thirdIn n w i j u ≡ true) × (r ≡ rankOf n (corner n i j u))
+      → (thirdIn n w i j u ≡ true) × (r ≡ rankOf n (trio n i j u))
   star-third r u h e un ne o = (third-in u un ne (ap (member w) (sym is) ∙ a .1), is)
     where
       a : (On (tripleAt n r) i × On (tripleAt n r) j) × (member w r ≡ true)
       a = star-out r h e
 
-      is : r ≡ rankOf n (corner n i j u)
-      is = eqb-true r (rankOf n (corner n i j u)) (sym (corner-rank n i j u ij jn un (ne .0) (ne .1) r) ∙ (λ t. a .0 .0 t && a .0 .1 t && o t))
+      is : r ≡ rankOf n (trio n i j u)
+      is = eqb-true r (rankOf n (trio n i j u)) (sym (corner-rank n i j u ij jn un (ne .0) (ne .1) r) ∙ (λ t. a .0 .0 t && a .0 .1 t && o t))
 
   -- the triple of a third shot
   third-star : (v : ℕ) → n ≤ shotsMost → v < n → thirdIn n w i j v ≡ true
-      → (rankOf n (corner n i j v) < wordBits * wordCount) × (member (star n i j w) (rankOf n (corner n i j v)) ≡ true) × On (tripleAt n (rankOf n (corner n i j v))) v
-  third-star v few vn h = (low, member-star (rankOf n (corner n i j v)) low ∙ (λ t. all .0 t && third-out v vn h .1 t), all .1)
+      → (rankOf n (trio n i j v) < wordBits * wordCount) × (member (star n i j w) (rankOf n (trio n i j v)) ≡ true) × On (tripleAt n (rankOf n (trio n i j v))) v
+  third-star v few vn h = (low, member-star (rankOf n (trio n i j v)) low ∙ (λ t. all .0 t && third-out v vn h .1 t), all .1)
     where
       ne : (v ≡ i → ⊥) × (v ≡ j → ⊥)
       ne = third-out v vn h .0
 
-      low : rankOf n (corner n i j v) < wordBits * wordCount
+      low : rankOf n (trio n i j v) < wordBits * wordCount
       low = corner-low n i j v few ij jn vn (ne .0) (ne .1)
 
-      all : ((isOn i (tripleAt n (rankOf n (corner n i j v))) && isOn j (tripleAt n (rankOf n (corner n i j v)))) ≡ true) × On (tripleAt n (rankOf n (corner n i j v))) v
-      all = and-parts (isOn i (tripleAt n (rankOf n (corner n i j v))) && isOn j (tripleAt n (rankOf n (corner n i j v)))) (isOn v (tripleAt n (rankOf n (corner n i j v))))
-          (corner-rank n i j v ij jn vn (ne .0) (ne .1) (rankOf n (corner n i j v)) ∙ eq-eqb (rankOf n (corner n i j v)) (rankOf n (corner n i j v)) refl)
+      all : ((isOn i (tripleAt n (rankOf n (trio n i j v))) && isOn j (tripleAt n (rankOf n (trio n i j v)))) ≡ true) × On (tripleAt n (rankOf n (trio n i j v))) v
+      all = and-parts (isOn i (tripleAt n (rankOf n (trio n i j v))) && isOn j (tripleAt n (rankOf n (trio n i j v)))) (isOn v (tripleAt n (rankOf n (trio n i j v))))
+          (corner-rank n i j v ij jn vn (ne .0) (ne .1) (rankOf n (trio n i j v)) ∙ eq-eqb (rankOf n (trio n i j v)) (rankOf n (trio n i j v)) refl)
 
 module _ (l : List ℤ) (w : List ℕ) (m i j : ℕ) (few : countOf l ≤ shotsMost) (ij : i < j) (jn : j < countOf l) where
   abbrev n : ℕ
@@ -348,21 +348,6 @@ module _ (l : List ℤ) (w : List ℕ) (m i j : ℕ) (few : countOf l ≤ shotsM
 
   abbrev across : ℕ → Bool
   across v = opposed (orientOf l i j v) (orientOf l i j m)
-
-  -- v is the only third shot
-  abbrev Lone : ℕ → Type 0
-  Lone v = (thirdIn n w i j v ≡ true) × ((u : ℕ) × (u < n) × ((u ≡ v → ⊥) × (thirdIn n w i j u ≡ true)) → ⊥)
-
-  lone-third : (v : ℕ) → Reflects (Lone v) (loneThird n w i j v)
-  unfolding loneThird
-  lone-third v =
-      reflects-and (reflects-test (thirdIn n w i j v))
-      (reflects-not (reflects-any (λ u. (u ≡ v → ⊥) × (thirdIn n w i j u ≡ true)) (λ u. not (eqb u v) && thirdIn n w i j u) n
-      (λ u h. reflects-and (reflects-not (reflects-eqb u v)) (reflects-test (thirdIn n w i j u)))))
-
-  seen : Reflects ((v : ℕ) × (v < n) × (Lone v × (across v ≡ true))) (visible l w m i j)
-  unfolding visible
-  seen = reflects-any (λ v. Lone v × (across v ≡ true)) (λ v. loneThird n w i j v && across v) n (λ v h. reflects-and (lone-third v) (reflects-test (across v)))
 
   abbrev edgeStar : List ℕ
   edgeStar = star n i j w
@@ -389,9 +374,9 @@ module _ (l : List ℤ) (w : List ℕ) (m i j : ℕ) (few : countOf l ≤ shotsM
       (reflects-and (alone-reflects edgeStar)
       (reflects-any (λ v. Meets v × (across v ≡ true)) (λ v. meetsOf edgeStar (holdersOf n v) && across v) n
       (λ v h. reflects-and (meets-reflects edgeStar (holdersOf n v)) (reflects-test (across v))))))
-      seen
+      (visible-lone l w m i j)
     where
-      into : Alone × ((v : ℕ) × (v < n) × (Meets v × (across v ≡ true))) → (v : ℕ) × (v < n) × (Lone v × (across v ≡ true))
+      into : Alone × ((v : ℕ) × (v < n) × (Meets v × (across v ≡ true))) → (v : ℕ) × (v < n) × LoneAcross l w m i j v
       into h = (v, vn, ((is .0, lone), q .2 .1))
         where
           a : Alone
@@ -415,16 +400,16 @@ module _ (l : List ℤ) (w : List ℕ) (m i j : ℕ) (few : countOf l ≤ shotsM
           rl : r < wordBits * wordCount
           rl = star-low r (q .2 .0 .1)
 
-          is : (thirdIn n w i j v ≡ true) × (r ≡ rankOf n (corner n i j v))
+          is : (thirdIn n w i j v ≡ true) × (r ≡ rankOf n (trio n i j v))
           is = star-third n i j w ij jn r v rl (q .2 .0 .2) vn ne (sym (member-holders n v r rl) ∙ q .2 .0 .3)
 
-          lone : (u : ℕ) × (u < n) × ((u ≡ v → ⊥) × (thirdIn n w i j u ≡ true)) → ⊥
-          lone z =
-              let t = third-star n i j w ij jn (z .0) few (z .1) (z .2 .1) in
-              z .2 .0 (third-one n i j w ij jn (z .0) v (z .1) vn (third-out n i j w ij jn (z .0) (z .1) (z .2 .1) .0) ne
-              (a .3 (rankOf n (corner n i j (z .0))) (low-star (rankOf n (corner n i j (z .0))) (t .0)) (t .1) ∙ sym (a .3 r (q .2 .0 .1) (q .2 .0 .2)) ∙ is .1))
+          lone : (u : ℕ) → u < n → thirdIn n w i j u ≡ true → u ≡ v
+          lone u un e =
+              let t = third-star n i j w ij jn u few un e in
+              third-one n i j w ij jn u v un vn (third-out n i j w ij jn u un e .0) ne
+              (a .3 (rankOf n (trio n i j u)) (low-star (rankOf n (trio n i j u)) (t .0)) (t .1) ∙ sym (a .3 r (q .2 .0 .1) (q .2 .0 .2)) ∙ is .1)
 
-      out : (v : ℕ) × (v < n) × (Lone v × (across v ≡ true)) → Alone × ((v : ℕ) × (v < n) × (Meets v × (across v ≡ true)))
+      out : (v : ℕ) × (v < n) × LoneAcross l w m i j v → Alone × ((v : ℕ) × (v < n) × (Meets v × (across v ≡ true)))
       out h = ((r, low-star r (t .0), t .1, λ s sl e. only s (star-low s sl) e), (v, vn, ((r, low-star r (t .0), t .1, member-holders n v r (t .0) ∙ t .2), h .2 .1)))
         where
           v : ℕ
@@ -434,23 +419,16 @@ module _ (l : List ℤ) (w : List ℕ) (m i j : ℕ) (few : countOf l ≤ shotsM
           vn = h .1
 
           r : ℕ
-          r = rankOf n (corner n i j v)
+          r = rankOf n (trio n i j v)
 
           t : (r < wordBits * wordCount) × (member edgeStar r ≡ true) × On (tripleAt n r) v
           t = third-star n i j w ij jn v few vn (h .2 .0 .0)
 
           only : (s : ℕ) → s < wordBits * wordCount → member edgeStar s ≡ true → s ≡ r
-          only s sl e = go (ℕ-discrete (u .0) v)
-            where
-              u : (u : ℕ) × (u < n) × ((u ≡ i → ⊥) × (u ≡ j → ⊥)) × On (tripleAt n s) u
-              u = has-third n i j w ij jn s (on-ranked n s i (star-out n i j w ij jn s sl e .0 .0))
-
-              is : (thirdIn n w i j (u .0) ≡ true) × (s ≡ rankOf n (corner n i j (u .0)))
-              is = star-third n i j w ij jn s (u .0) sl e (u .1) (u .2) (u .3)
-
-              go : Dec (u .0 ≡ v) → s ≡ r
-              go (yes q) = is .1 ∙ ap (λ (k : ℕ). rankOf n (corner n i j k)) q
-              go (no q) = absurd (h .2 .0 .1 (u .0, u .1, (q, is .0)))
+          only s sl e =
+              let (u, un, ne, o) = has-third n i j w ij jn s (on-ranked n s i (star-out n i j w ij jn s sl e .0 .0)) in
+              let (third, is) = star-third n i j w ij jn s u sl e un ne o in
+              is ∙ ap (λ (k : ℕ). rankOf n (trio n i j k)) (h .2 .0 .1 u un third)
 
   pub with-edge-yes : (u : List ℕ) → m < countOf l → Words wordCount u → visible l w m i j ≡ true
       → eitherOf u (bothOf (bothOf (holdersOf (countOf l) i) (holdersOf (countOf l) j)) (holdersOf (countOf l) m)) ≡ withEdge l w m j i u

@@ -1,5 +1,9 @@
 pub mod ByEdges
 pub mod Agreement
+pub mod PlacedWords
+pub mod PlacedLists
+pub mod PlacedShots
+pub mod PlacedAccepted
 pub mod Promises
 pub mod Balance
 pub mod AreaKept

@@ -1,15 +1,13 @@
 -- What the public calls of this room answer, for every input: a list, as its words, or a refusal number.
 --
 --   readSurface      the refusal number or the words of each case of an answer
---   badResult l w    14: the list fails the test
---   placingOf l      the placing surface; or 1-4, 14
---   flipOf l w z     the list flipped along circuit z; or 1-4, 7 10 8 9, 12 13 14
+--   placingOf l      the placing surface; or 1-4
+--   flipOf l w z     the list flipped along circuit z; or 1-4, 7 10 8 9, 12 13
 --
--- Source: document 01, "The placing surface", "Flips".
+-- That every list given is a triangulation of the patch, with no test of it: proofs/Promises. Source: document 01, "The placing surface", "Flips".
 use mathlib.Core.Bool.{not, _||_}
 use mathlib.Core.List.{List, [], _∷_, _++_}
 use Prim.Native.Nat.{ℕ}
-use lib.Dec.{eqb}
 use lib.IntN.{ℤ}
 use Rattle.algebra.specs.Answer.{Answer, gives, refuses, Rule, chain}
 use Rattle.shots.specs.Patch.{countOf}
@@ -17,7 +15,7 @@ use Rattle.shots.specs.Tests.{shotRules}
 use Rattle.circuits.specs.Sides.{Circuit}
 use Rattle.circuits.specs.Calls.{circuitAt, circuitRule}
 use Rattle.triples.specs.Sets.{wordsOf}
-use Rattle.lists.specs.Tests.{listRules, listRefusalOf}
+use Rattle.lists.specs.Tests.{listRules}
 use Rattle.surfaces.specs.Flips.{piecesOf, supports, flippedOf}
 use Rattle.surfaces.specs.Placing.{placedOf}
 use Rattle.surfaces.specs.declared.Surface.{Surface}
@@ -27,18 +25,15 @@ abbrev pub readSurface : Surface → Answer (List ℕ)
 readSurface (S.List t) = gives (wordsOf t)
 readSurface (S.Refused n) = refuses n
 
-abbrev pub badResult : List ℤ → List ℕ → Rule
-badResult l w = record { number = 14; broken = not (eqb (listRefusalOf l w) 0) }
-
 unfoldable pub placingOf : List ℤ → Answer (List ℕ)
-placingOf l = chain (shotRules l ++ badResult l (placedOf l) ∷ []) (placedOf l)
+placingOf l = chain (shotRules l) (placedOf l)
 
 -- 13: neither side's pieces are supported
 abbrev pub noFlip : List ℤ → List ℕ → Circuit → Rule
 noFlip l w z = record { number = 13; broken = not (supports (countOf l) w (piecesOf (countOf l) z (z .plus)) || supports (countOf l) w (piecesOf (countOf l) z (z .minus))) }
 
 abbrev pub flipRules : List ℤ → List ℕ → ℕ → List Rule
-flipRules l w z = circuitRule l z ∷ noFlip l w (circuitAt l z) ∷ badResult l (flippedOf (countOf l) w (circuitAt l z)) ∷ []
+flipRules l w z = circuitRule l z ∷ noFlip l w (circuitAt l z) ∷ []
 
 unfoldable pub flipOf : List ℤ → List ℕ → ℕ → Answer (List ℕ)
 flipOf l w z = chain (shotRules l ++ (listRules l w ++ flipRules l w z)) (flippedOf (countOf l) w (circuitAt l z))

@@ -3,9 +3,7 @@
 --   Accepted l w        the list is a triangulation of the patch: nothing past the last rank, and Theorem 2.1
 --   signsOf l z         the signs of circuit z
 --   NoFlip l w z        13: the list supports neither the plus pieces nor the minus pieces of circuit z
---   BadFlip l w z       14: the flip of the list fails the test
---   flipLines l w z     the table of `flip`
---   placingLines l      the table of `placing`
+--   flipLines l w z     the table of `flip`; that of `placing` is `shotLines` (shots)
 --
 -- The theorems: proofs/Promises.
 use mathlib.Core.List.{List, [], _∷_, _++_}
@@ -23,8 +21,6 @@ use Rattle.circuits.specs.Sides.{signIn}
 use Rattle.circuits.specs.Lines.{NotCircuit}
 use Rattle.circuits.specs.Calls.{circuitAt}
 use Rattle.lists.specs.Lines.{Listed, PastLast, listLines}
-use Rattle.surfaces.specs.Flips.{flippedOf}
-use Rattle.surfaces.specs.Placing.{placedOf}
 
 abbrev pub Accepted : List ℤ → List ℕ → Type 0
 Accepted l w = (PastLast l w → ⊥) × Triangulation (countOf l) (patchOf l) (Listed (countOf l) w)
@@ -35,16 +31,9 @@ signsOf l z = signIn (circuitAt l z)
 abbrev pub NoFlip : List ℤ → List ℕ → ℕ → Type 0
 NoFlip l w z = (Supports (countOf l) (Listed (countOf l) w) (signsOf l z) plus → ⊥) × (Supports (countOf l) (Listed (countOf l) w) (signsOf l z) minus → ⊥)
 
-abbrev pub BadFlip : List ℤ → List ℕ → ℕ → Type 0
-BadFlip l w z = Accepted l (flippedOf (countOf l) w (circuitAt l z)) → ⊥
-
 abbrev pub flipLines : List ℤ → List ℕ → ℕ → List Line
 flipLines l w z =
     shotLines l ++ (listLines l w ++
     record { number = 12; when = NotCircuit l z }
     ∷ record { number = 13; when = NoFlip l w z }
-    ∷ record { number = 14; when = BadFlip l w z }
     ∷ [])
-
-abbrev pub placingLines : List ℤ → List Line
-placingLines l = shotLines l ++ record { number = 14; when = Accepted l (placedOf l) → ⊥ } ∷ []

@@ -12,6 +12,7 @@
 --   placeNext l m w       the same for a remaining shot m; the three first shots are passed over
 --   placedOf l            every shot in increasing number
 --
+-- Main theorem: proofs/PlacedAccepted (`placed-accepted`: the surface of an accepted patch is a triangulation of it).
 -- Source: document 01, "The placing surface"; source 001, section 3.3.
 use mathlib.Core.Bool.{Bool, not, cond, _||_, _&&_}
 use mathlib.Core.List.{List, [], _∷_}

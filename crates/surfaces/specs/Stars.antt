@@ -9,8 +9,7 @@
 --   turnedBy n x t u w    the list with the star t taken out, and what belongs to the same link in the star u put in
 --   foundBy n x t u w     the list w supports the pieces of one of the stars t and u
 --   flippedBy n x t u w   the list turned from t to u where t is supported, else from u to t where u is, else as it is
---   foundAnswer l f w     the list w that a flip found; or 13 where it found none, 14 where w fails the test
---   turnAnswer l x t u w  so for the list turned between t and u
+--   foundAnswer f w       the list w that a flip found; or 13 where it found none
 --
 -- That this is the flip of specs/Flips: proofs/ByStars, proofs/CallChains.
 use mathlib.Core.Path.{_≡_}
@@ -18,16 +17,13 @@ use mathlib.Core.Bool.{Bool, not, cond, _||_, _&&_}
 use mathlib.Core.List.{List, [], _∷_}
 use Prim.Native.Nat.{ℕ}
 use lib.Dec.{ltb}
-use lib.IntN.{ℤ}
 use Rattle.algebra.specs.Answer.{Answer, chain}
 use Rattle.algebra.specs.Loops.{any}
 use Rattle.algebra.specs.Sets.{isOn, bit}
 use Rattle.algebra.specs.Words.{clearBit, sift, bothOf, eitherOf, lessOf, meetsOf, insideOf}
-use Rattle.shots.specs.Patch.{countOf}
 use Rattle.triples.specs.Sizes.{wordCount}
 use Rattle.triples.specs.Ranks.{tripleCount, tripleAt}
 use Rattle.triples.specs.Sets.{maskOn, holdersOf}
-use Rattle.surfaces.specs.Calls.{badResult}
 
 unfoldable pub starOf : ℕ → ℕ → ℕ → List ℕ
 starOf n a x = sift wordCount (λ r. ltb r (tripleCount n) && any n (λ i. bit a i && (maskOn n (clearBit x i) (tripleAt n r) && not (isOn i (tripleAt n r)))))
@@ -58,8 +54,5 @@ foundBy n x t u w = supportedBy n x t w || supportedBy n x u w
 abbrev pub flippedBy : ℕ → ℕ → List ℕ → List ℕ → List ℕ → List ℕ
 flippedBy n x t u w = cond (supportedBy n x t w) (turnedBy n x t u w) (cond (supportedBy n x u w) (turnedBy n x u t w) w)
 
-unfoldable pub foundAnswer : List ℤ → Bool → List ℕ → Answer (List ℕ)
-foundAnswer l f w = chain (record { number = 13; broken = not f } ∷ badResult l w ∷ []) w
-
-abbrev pub turnAnswer : List ℤ → ℕ → List ℕ → List ℕ → List ℕ → Answer (List ℕ)
-turnAnswer l x t u w = foundAnswer l (foundBy (countOf l) x t u w) (flippedBy (countOf l) x t u w)
+unfoldable pub foundAnswer : Bool → List ℕ → Answer (List ℕ)
+foundAnswer f w = chain (record { number = 13; broken = not f } ∷ []) w

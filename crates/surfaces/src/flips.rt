@@ -1,19 +1,13 @@
-// The flip of a list along a circuit, by sets of triples, and the test of its result.
+// The flip of a list along a circuit, by sets of triples.
 ghost use mathlib.Core.Path.{_≡_};
 ghost use mathlib.Core.Bool.{cond};
 ghost use Prim.Native.Nat.{_*_, _^_, _≤_, _<_};
 ghost use lib.ListN.{length};
 ghost use Rattle.algebra.specs.Words.{clearBit};
 ghost use Rattle.shots.specs.Sizes.{shotsMost, maskBits};
-ghost use Rattle.shots.specs.Patch.{countOf};
-ghost use Rattle.circuits.specs.Numbered.{circuitsOf};
 ghost use Rattle.triples.specs.Sizes.{wordCount};
 ghost use Rattle.triples.specs.Sets.{wordsOf, Holding};
-ghost use Rattle.lists.specs.Held.{heldRows, Prepared};
-ghost use Rattle.surfaces.specs.Stars.{starOf, IsStar, linkedOf, linkedAt, supportedBy, turnedBy, foundBy, flippedBy, turnAnswer};
-ghost use Rattle.surfaces.specs.Calls.{readSurface};
-use super::Surface;
-use lists::core;
+ghost use Rattle.surfaces.specs.Stars.{starOf, IsStar, linkedOf, linkedAt, supportedBy, turnedBy, foundBy, flippedBy};
 use triples::Triples;
 
 // A list that was flipped, or as it was where there is no flip.
@@ -127,28 +121,4 @@ pub fn between(
         return first;
     }
     exchange(held, n, x, minus, plus, list)
-}
-
-// The flip of a list between two stars of the circuit x, and the test of its result.
-pub fn tested(
-    shots: &[i32],
-    held: &[u64],
-    count: usize,
-    x: u16,
-    plus: Triples,
-    minus: Triples,
-    list: Triples,
-) -> Surface
-    requires { ⌜ (countOf (now shots) ≤ shotsMost) × (count ≡ length (circuitsOf (now shots))) × (wordCount * heldRows ≤ length (now held)) × Prepared (now shots) (now held) × (x < 2 ^ countOf (now shots)) × IsStar (countOf (now shots)) x (wordsOf plus) × IsStar (countOf (now shots)) x (wordsOf minus) ⌝ }
-    ensures { λ r. ⌜ readSurface r ≡ turnAnswer (now (shots .entry)) x (wordsOf plus) (wordsOf minus) (wordsOf list) ⌝ }
-{
-    let turned = between(held, shots.len() / 2, x, plus, minus, list);
-    if !turned.found {
-        return Surface::Refused(13);
-    }
-    let next = turned.list;
-    if core::refusal(shots, held, count, next) != 0 {
-        return Surface::Refused(14);
-    }
-    Surface::List(next)
 }

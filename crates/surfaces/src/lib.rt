@@ -1,7 +1,7 @@
 // Surfaces: the placing surface of a patch, and the flip of a surface along a circuit.
 //
-//   placing    a list                  1-4, 14
-//   flip       a list                  1-4, 7 10 8 9, 12 13 14
+//   placing    a list                  1-4
+//   flip       a list                  1-4, 7 10 8 9, 12 13
 //
 // Every call takes every input; specs/Calls.antt says what it answers, specs/Lines.antt when it refuses.
 ghost use mathlib.Core.Path.{_≡_};
@@ -10,10 +10,15 @@ ghost use Rattle.surfaces.specs.Calls.{readSurface, placingOf, flipOf};
 use circuits::CIRCUITS_MOST;
 use lists::HELD_WORDS;
 use lists::core;
+use shots::SHOTS_MOST;
 use triples::Triples;
+use triples::WORDS;
 
 pub mod flips;
 pub mod placed;
+
+// The words of a table that has a row for each shot.
+const HOLDING_WORDS: usize = WORDS * SHOTS_MOST;
 
 pub enum Surface {
     List(Triples),
@@ -27,15 +32,9 @@ pub fn placing(shots: &[i32]) -> Surface
     if refusal != 0 {
         return Surface::Refused(refusal);
     }
-    let mut plus = [0u16; CIRCUITS_MOST];
-    let mut minus = [0u16; CIRCUITS_MOST];
-    let mut held = [0u64; HELD_WORDS];
-    let count = core::prepare(shots, &mut plus, &mut minus, &mut held);
-    let list = placed::all(shots, &held);
-    if core::refusal(shots, &held, count, list) != 0 {
-        return Surface::Refused(14);
-    }
-    Surface::List(list)
+    let mut held = [0u64; HOLDING_WORDS];
+    triples::holding::fill(shots.len() / 2, &mut held);
+    Surface::List(placed::all(shots, &held))
 }
 
 pub fn flip(shots: &[i32], list: Triples, z: usize) -> Surface
@@ -60,13 +59,17 @@ pub fn flip(shots: &[i32], list: Triples, z: usize) -> Surface
     let p = plus[z];
     let m = minus[z];
     let x = p + m;
-    flips::tested(
-        shots,
+    let turned = flips::between(
         &held,
-        count,
+        n,
         x,
         flips::star(&held, n, p, x),
         flips::star(&held, n, m, x),
         list,
-    )
+    );
+    if !turned.found {
+        return Surface::Refused(13);
+    }
+    let next = turned.list;
+    Surface::List(next)
 }

@@ -11,7 +11,6 @@
 --   indexed-none                    the index of no row
 --   indexed-noted                   a row more, put in: the index of a table that has it, behind the same rows
 --   indexed-placed                  so it is where the row is written to the table
---   sound-seen                      where all rows are accepted, so is a list that is one of them
 use mathlib.Core.Path.{_≡_, refl, sym, _∙_, ap, subst}
 use mathlib.Core.Bool.{Bool, true, false, cond, _||_, or-false}
 use mathlib.Core.List.{List, [], _∷_}
@@ -23,7 +22,6 @@ use native.Mathlib.Decide.{decLt, ℕ-discrete}
 use lib.Dec.{eqb}
 use lib.ListN.{length, getD, set, drop, replicate, length-set, length-replicate, getD-replicate, drop-of-length-le}
 use lib.Seq.{drop-cons, getD-set-same, getD-set-other}
-use lib.IntN.{ℤ}
 use borrow.Author.Tests.{eq-eqb, ne-eqb, lt-ltb, le-ltb}
 use Rattle.algebra.specs.Sets.{sameList}
 use Rattle.algebra.specs.Words.{rowOf, setRow}
@@ -32,10 +30,9 @@ use Rattle.algebra.proofs.LoopLaws.{any-last}
 use Rattle.algebra.proofs.SetTests.{reflects-same}
 use Rattle.algebra.proofs.WordLaws.{row-same, row-other}
 use Rattle.reach.specs.Walks.{seenIn}
-use Rattle.reach.proofs.StepLaws.{seen-at, seen-stands, unseen-all}
+use Rattle.reach.proofs.StepLaws.{seen-at, unseen-all}
 use Rattle.triples.specs.Sizes.{wordCount}
-use Rattle.lists.specs.Tests.{listRefusalOf}
-use Rattle.walks.specs.Known.{spots, indexedMost, spotFrom, spotOf, latestOf, coveredOf, notedOf, Indexed, Sound}
+use Rattle.walks.specs.Index.{spots, indexedMost, spotFrom, spotOf, latestOf, coveredOf, notedOf, Indexed}
 
 -- ---- the place of a list
 
@@ -256,8 +253,3 @@ module _ (t u w x : List ℕ) (n : ℕ) (index : Indexed t n x) (before : (q : �
 pub indexed-placed : (t w x : List ℕ) (n : ℕ) → Indexed t n x → length w ≡ wordCount → wordCount * n + wordCount ≤ length t → Indexed (setRow t n w) (n + 1) (notedOf x n w)
 indexed-placed t w x n index e h =
     indexed-noted t (setRow t n w) w x n index (λ q l. row-other wordCount t n q w e (λ z. omega arith)) (row-same wordCount t n w e h)
-
--- ---- accepted rows
-
-pub sound-seen : (l : List ℤ) (t : List ℕ) (n : ℕ) (w : List ℕ) → Sound l t n → seenIn wordCount t n w ≡ true → listRefusalOf l w ≡ 0
-sound-seen l t n w h e = let s = seen-stands wordCount t n w e in ap (listRefusalOf l) (sym (s .2)) ∙ h (s .0) (s .1)

@@ -1,6 +1,5 @@
 pub mod ScanLaws
 pub mod IndexLaws
-pub mod SoundLaws
 pub mod StepsLaws
 pub mod Promises
 pub mod Theorem

@@ -36,7 +36,7 @@ use Rattle.lists.specs.Lines.{listLines, testLines}
 use Rattle.lists.specs.Calls.{testOf}
 use Rattle.lists.proofs.Agreement.{accepted-iff-triangulation}
 use Rattle.lists.proofs.Promises.{test-refuses, test-accepts}
-use Rattle.surfaces.specs.Lines.{NoFlip, BadFlip}
+use Rattle.surfaces.specs.Lines.{NoFlip}
 use Rattle.surfaces.specs.Calls.{flipOf}
 use Rattle.surfaces.proofs.Promises.{flip-refuses, flip-gives}
 use Rattle.walks.specs.Calls.{plane, readWalk, readStarted, readStepped, startLanding, stepLanding}
@@ -149,17 +149,11 @@ module _ (l : List ℤ) (t : List ℕ) (r : WalkRecord) where
   z = circuitOf l r
 
   -- the lines of a step that tries a flip
-  abbrev badLine : Line
-  badLine = record { number = 14; when = Flips l t r × BadFlip l row z }
-
   abbrev fullLine : Line
   fullLine = record { number = 11; when = Flips l t r × New l t r × Full t r }
 
-  abbrev resultLines : List Line
-  resultLines = badLine ∷ fullLine ∷ []
-
   abbrev triedLines : List Line
-  triedLines = listLines l row ++ resultLines
+  triedLines = listLines l row ++ fullLine ∷ []
 
   -- a walk that is not at its end has a circuit to try
   circuit-below : (Impossible l t r → ⊥) → Ahead l r → NotCircuit l z → ⊥
@@ -178,10 +172,10 @@ module _ (l : List ℤ) (t : List ℕ) (r : WalkRecord) where
 
   -- the lines of a flip behind those of the list
   abbrev flipOwn : List Line
-  flipOwn = record { number = 12; when = NotCircuit l z } ∷ record { number = 13; when = NoFlip l row z } ∷ record { number = 14; when = BadFlip l row z } ∷ []
+  flipOwn = record { number = 12; when = NotCircuit l z } ∷ record { number = 13; when = NoFlip l row z } ∷ []
 
   module _ (shots : Clear (shotLines l)) (below : NotCircuit l z → ⊥) where
-    -- the flip refuses: by the list, or 13 which is no refusal of the step, or 14
+    -- the flip refuses: by the list, or 13 which is no refusal of the step
     flip-refused-says : (n : ℕ) → flipOf l row z ≡ refuses n → Says made triedLines (afterFlip (plane l) t r (refuses n) .answer)
     flip-refused-says n e =
         let f = first-append n (shotLines l) (listLines l row ++ flipOwn) .0 (flip-refuses l row z n .0 e) in
@@ -192,35 +186,31 @@ module _ (l : List ℤ) (t : List ℕ) (r : WalkRecord) where
 
         own : Clear (listLines l row) → First n flipOwn → Says made triedLines (afterFlip (plane l) t r (refuses n) .answer)
         own c (inl p) = absurd (below (p .0))
-        own c (inr (_, inl p)) = rw (after-none (plane l) t r n (p .1)) (none-holds (clear-append (listLines l row) resultLines .1 (c, (λ q. q .0 (p .0), (λ q. q .0 (p .0), tt)))))
-        own c (inr (_, inr (k, inl p))) = refused (let q = p .1 in λ d. omega arith) (first-append n (listLines l row) resultLines .1 (inr (c, inl ((k, p .0), p .1))))
-        own c (inr (_, inr (_, inr (_, f)))) = absurd f
+        own c (inr (_, inl p)) = rw (after-none (plane l) t r n (p .1)) (none-holds (clear-append (listLines l row) (fullLine ∷ []) .1 (c, (λ q. q .0 (p .0), tt))))
+        own c (inr (_, inr (_, f))) = absurd f
 
         listed : First n (listLines l row) ⊎ (Clear (listLines l row) × First n flipOwn) → Says made triedLines (afterFlip (plane l) t r (refuses n) .answer)
-        listed (inl f) = refused (list-not-13 n f) (first-append n (listLines l row) resultLines .1 (inl f))
+        listed (inl f) = refused (list-not-13 n f) (first-append n (listLines l row) (fullLine ∷ []) .1 (inl f))
         listed (inr (c, f)) = own c f
 
     -- the flip gives a list: it is known, or there is no room, or it is written
-    store-says : Clear (listLines l row) → Flips l t r → (BadFlip l row z → ⊥) → Says made triedLines (storeOf wordCount t r (resultOf l t r) .answer)
+    store-says : Clear (listLines l row) → Flips l t r → Says made triedLines (storeOf wordCount t r (resultOf l t r) .answer)
     unfolding storeOf
-    store-says c k good = says-behind resultLines (listLines l row) c (go (seen-reflects wordCount t (r .rows) (resultOf l t r)) (reflects-eqb (r .rows) (capacityOf wordCount (length t))))
+    store-says c k = says-behind (fullLine ∷ []) (listLines l row) c (go (seen-reflects wordCount t (r .rows) (resultOf l t r)) (reflects-eqb (r .rows) (capacityOf wordCount (length t))))
       where
-        not-bad : badLine .when → ⊥
-        not-bad q = good (q .1)
-
         go : {a b : Bool} → Reflects (Stands wordCount t (r .rows) (resultOf l t r)) a → Reflects (Full t r) b
-            → Says made resultLines
+            → Says made (fullLine ∷ [])
             (cond a (leaves t (counted r) (gives made)) (cond b (leaves t r (refuses 11)) (leaves (setRow t (r .rows) (resultOf l t r)) (grown r) (gives made))) .answer)
-        go (holds h) d = none-holds (not-bad, (λ q. q .1 h, tt))
-        go (fails h) (holds f) = first-holds 11 (inr (not-bad, inl ((k, h, f), refl)))
-        go (fails h) (fails f) = none-holds (not-bad, (λ q. f (q .2), tt))
+        go (holds h) d = none-holds (λ q. q .1 h, tt)
+        go (fails h) (holds f) = first-holds 11 (inl ((k, h, f), refl))
+        go (fails h) (fails f) = none-holds (λ q. f (q .2), tt)
 
     flip-given-says : (w : List ℕ) → flipOf l row z ≡ gives w → Says made triedLines (storeOf wordCount t r w .answer)
     flip-given-says w e =
         let (c, q) = flip-gives l row z w .0 e in
         let (_, d) = clear-append (shotLines l) (listLines l row ++ flipOwn) .0 c in
-        let (a, (_, (k, (good, _)))) = clear-append (listLines l row) flipOwn .0 d in
-        subst (λ (u : List ℕ). Says made triedLines (storeOf wordCount t r u .answer)) q (store-says a k good)
+        let (a, (_, (k, _))) = clear-append (listLines l row) flipOwn .0 d in
+        subst (λ (u : List ℕ). Says made triedLines (storeOf wordCount t r u .answer)) q (store-says a k)
 
     tried-says : Says made triedLines (afterFlip (plane l) t r (flipOf l row z) .answer)
     tried-says = go (flipOf l row z) refl

@@ -5,11 +5,12 @@
 --   flip-keeps           a flip of the plane keeps the number of words
 --   is-made, not-made    what the test of an answer says
 --   landed               what a step leaves that writes nothing, from what is handed back
---   known-counted        what a run knew it knows after such a step
+--   indexed-counted      its index is that of the rows still
 --   later w k r          the record w after k steps, with r rows
 --   SoFar l t w b k u r  of the b steps from the table t and the record w, k are made; they leave the table u, as long as t, and r rows
 --   far-none, far-on     so it is before the first step, and again after some more that are made
 --   far-stop, far-all    what the b steps leave, where one of the next is not made, and where all are made
+--   far-written          a row that they wrote is accepted
 --   going-fits, going-below, going-few, going-small    there is room for the rows; the step number is at most rows × circuits; the circuits are few; that product is small
 --   going-room           the row of a step that is left to make lies in the table
 --   going-on             `Going` holds after steps that are made
@@ -26,8 +27,10 @@ use native.Mathlib.Omega.{arith}
 use native.Mathlib.Nat.{add-zero, le-antisymm, le-min, min-le-left, min-le-right, mul-le-mul, div-add-mod', div-eq-of-lt, div-lt-iff-lt-mul, mul-add-div-right, mul-add-mod-self-right, mod-lt, mod-eq-of-lt}
 use lib.ListN.{length}
 use lib.IntN.{ℤ}
+use borrow.Author.Tests.{eqb-true}
 use Rattle.algebra.specs.Answer.{Answer, gives, refuses, refusal}
 use Rattle.algebra.specs.Words.{rowOf}
+use Rattle.algebra.proofs.AnswerLaws.{reflects-true}
 use Rattle.reach.specs.Walks.{WalkRecord, Reply, started, made, done, Landing, leaves, rowsMost, capacityOf, impossible, counted, afterFlip, tryOf, stepOf, goOn, stepsOf, runOf}
 use Rattle.reach.specs.Walked.{Keeps}
 use Rattle.reach.proofs.ReachLaws.{tried-row}
@@ -42,12 +45,12 @@ use Rattle.circuits.proofs.Bounds.{circuits-most}
 use Rattle.triples.specs.Sizes.{wordCount}
 use Rattle.lists.specs.Tests.{pastLast, someFlat, isEmpty, crossing, openEdge, listRefusalOf}
 use Rattle.surfaces.specs.Calls.{flipOf}
-use Rattle.surfaces.proofs.Promises.{flip-words}
+use Rattle.surfaces.proofs.Promises.{accepted-decided, flip-accepted, flip-words}
 use Rattle.surfaces.proofs.CallChains.{flip-unlisted}
 use Rattle.walks.specs.declared.AfterStep.{AfterStep}
 use Rattle.walks.specs.Calls.{plane, readWalk, readStepped, afterStep, isMade}
 use Rattle.walks.specs.Going.{Going}
-use Rattle.walks.specs.Known.{Known}
+use Rattle.walks.specs.Index.{Indexed}
 
 -- ---- the number of a step
 
@@ -106,8 +109,8 @@ module _ (r : AfterStep) (w : WalkRecord) (passed : (readStepped (r .answer) ≡
   pub landed : {t : List ℕ} → afterStep t r ≡ leaves t (counted w) (gives made)
   landed {t} = λ k. leaves t (passed .1 k) (passed .0 k)
 
-  pub known-counted : {l : List ℤ} {t x : List ℕ} {b : Bool} → Known l t (w .rows) x b → Known l t (r .walk .rows) x b
-  known-counted {l} {t} {x} {b} known = subst (λ (n : ℕ). Known l t n x b) (ap (λ (v : WalkRecord). v .rows) (sym (passed .1))) known
+  pub indexed-counted : {t x : List ℕ} → Indexed t (w .rows) x → Indexed t (r .walk .rows) x
+  indexed-counted {t} {x} = subst (λ (n : ℕ). Indexed t n x) (ap (λ (v : WalkRecord). v .rows) (sym (passed .1)))
 
 -- ---- the steps of a run so far
 
@@ -147,6 +150,9 @@ module _ {l : List ℤ} {t : List ℕ} {w : WalkRecord} {b k : ℕ} {u : List �
 
   pub far-all : b ≤ k → leaves u (later w b r) (gives made) ≡ stepsOf (plane l) b t w
   far-all h = subst (λ (n : ℕ). leaves u (later w n r) (gives made) ≡ stepsOf (plane l) n t w) (le-antisymm (far .most) h) (far .steps)
+
+  pub far-written : refusalOf l ≡ 0 → w .rows ≤ capacityOf wordCount (length t) → (p : ℕ) → w .rows ≤ p → p < r → listRefusalOf l (rowOf wordCount u p) ≡ 0
+  far-written ok room p h i = let (x, z, size, e) = far-goes .wrote (flip-keeps l) room p h i in eqb-true _ 0 (reflects-true (accepted-decided l ok (rowOf wordCount u p)) (flip-accepted l x (rowOf wordCount u p) z size e))
 
 -- ---- what holds between them
 

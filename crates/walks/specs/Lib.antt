@@ -1,5 +1,6 @@
 pub mod Calls
-pub mod Known
+pub mod Index
 pub mod Going
 pub mod Lines
 pub mod Surfaces
+pub mod Reached

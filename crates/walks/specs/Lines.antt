@@ -31,7 +31,7 @@ use Rattle.circuits.specs.Calls.{circuitAt}
 use Rattle.triples.specs.Sizes.{wordCount}
 use Rattle.lists.specs.Lines.{listLines, testLines}
 use Rattle.surfaces.specs.Flips.{flippedOf}
-use Rattle.surfaces.specs.Lines.{NoFlip, BadFlip}
+use Rattle.surfaces.specs.Lines.{NoFlip}
 use Rattle.walks.specs.Calls.{plane}
 
 abbrev pub during : Type 0 → List Line → List Line
@@ -78,7 +78,7 @@ Full t r = r .rows ≡ capacityOf wordCount (length t)
 abbrev pub stepLines : List ℤ → List ℕ → WalkRecord → List Line
 stepLines l t r =
     walkLines l t r ++ during (Ahead l r)
-    (listLines l (rowAt l t r) ++ record { number = 14; when = Flips l t r × BadFlip l (rowAt l t r) (circuitOf l r) } ∷ record { number = 11; when = Flips l t r × New l t r × Full t r } ∷ [])
+    (listLines l (rowAt l t r) ++ record { number = 11; when = Flips l t r × New l t r × Full t r } ∷ [])
 
 -- ---- a run
 

@@ -6,7 +6,7 @@ ghost use lib.ListN.{length, replicate};
 ghost use Rattle.reach.specs.Walks.{seenIn};
 ghost use Rattle.triples.specs.Sizes.{wordCount};
 ghost use Rattle.triples.specs.Sets.{wordsOf};
-ghost use Rattle.walks.specs.Known.{spots, indexedMost, spotOf, coveredOf, notedOf, Indexed};
+ghost use Rattle.walks.specs.Index.{spots, indexedMost, spotOf, coveredOf, notedOf, Indexed};
 use triples::Triples;
 use triples::WORDS;
 use triples::rows;

@@ -1,7 +1,7 @@
 // Walks: all surfaces that are reached from one by flips, listed in a lent table, with a record that the caller keeps between calls.
 //
 //   start    started                 1-4, 7 10 8 9, 11
-//   step     made, done              1-4, 15, the row's 7 10 8 9, 14, 11
+//   step     made, done              1-4, 15, the row's 7 10 8 9, 11
 //   run      made, done              as a step
 //
 // Each has a twin, start_at, step_at, run_at, that takes the record by value and hands it back. Every call takes every input; specs/Calls.antt says what it answers and leaves,

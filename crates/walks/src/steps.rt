@@ -1,11 +1,11 @@
-// Steps over what a run has worked out: the shots and the record are tested before, a row is tested once.
+// Steps over what a run has worked out: the shots and the record are tested before, a lent row before its first circuit.
 ghost use mathlib.Core.Path.{_≡_};
 ghost use mathlib.Core.Bool.{true};
 ghost use Prim.Native.Nat.{_+_, _*_, _-_, _/_, _%_, _≤_, _<_};
 ghost use lib.ListN.{length};
 ghost use Rattle.algebra.specs.Answer.{gives};
 ghost use Rattle.algebra.specs.Words.{rowOf};
-ghost use Rattle.reach.specs.Walks.{made, rowsMost, capacityOf, counted, afterFlip, stepOf, stepsOf};
+ghost use Rattle.reach.specs.Walks.{made, rowsMost, counted, stepOf, stepsOf};
 ghost use Rattle.shots.specs.Sizes.{shotsMost};
 ghost use Rattle.shots.specs.Patch.{countOf};
 ghost use Rattle.circuits.specs.Sizes.{circuitsMost};
@@ -14,14 +14,12 @@ ghost use Rattle.triples.specs.Sizes.{wordCount};
 ghost use Rattle.triples.specs.Sets.{wordsOf};
 ghost use Rattle.lists.specs.Tests.{listRefusalOf};
 ghost use Rattle.lists.specs.Held.{heldRows, Prepared};
-ghost use Rattle.surfaces.specs.Stars.{foundAnswer};
 ghost use Rattle.walks.specs.Calls.{plane, readWalk, readStepped, afterStep, isMade};
 ghost use Rattle.walks.specs.Going.{Going};
-ghost use Rattle.walks.specs.Known.{Indexed, Known};
+ghost use Rattle.walks.specs.Index.{Indexed};
 use super::AfterStep;
 use super::Stepped;
 use super::Walk;
-use super::index;
 use super::table;
 use lists::core;
 use triples::Triples;
@@ -52,34 +50,6 @@ fn passed(walk: Walk) -> AfterStep
     }
 }
 
-// A flip's result: where all rows are accepted and it is one of them, it needs no test.
-fn settle(
-    shots: &[i32],
-    held: &[u64],
-    count: usize,
-    table: &mut [u64],
-    index: &mut [u16],
-    walk: Walk,
-    sure: bool,
-    list: Triples,
-) -> AfterStep
-    requires { ⌜ (countOf (now shots) ≤ shotsMost) × (count ≡ length (circuitsOf (now shots))) × (wordCount * heldRows ≤ length (now held)) × Prepared (now shots) (now held) × (walk .rows ≤ capacityOf wordCount (length (now table))) × (walk .step < rowsMost * circuitsMost) × Known (now shots) (now table) (walk .rows) (now index) sure ⌝ }
-    ensures { λ r. ⌜ (afterStep (now (table .exit)) r ≡ afterFlip (plane (now (shots .entry))) (now (table .entry)) (readWalk walk) (foundAnswer (now (shots .entry)) true (wordsOf list))) × Known (now (shots .entry)) (now (table .exit)) (r .walk .rows) (now (index .exit)) sure ⌝ }
-{
-    if sure {
-        if index::seen(table, index, walk.rows, list) {
-            return passed(walk);
-        }
-    }
-    if core::refusal(shots, held, count, list) != 0 {
-        return AfterStep {
-            answer: Stepped::Refused(14),
-            walk,
-        };
-    }
-    table::place(table, index, walk, list)
-}
-
 // One step along a row that is accepted, with circuit z.
 fn one(
     shots: &[i32],
@@ -90,19 +60,18 @@ fn one(
     table: &mut [u64],
     index: &mut [u16],
     walk: Walk,
-    sure: bool,
     row: Triples,
     z: usize,
 ) -> AfterStep
-    requires { ⌜ Going (now shots) (now plus) (now minus) (now held) count (now table) (readWalk walk) × (walk .step < walk .rows * count) × (wordsOf row ≡ rowOf wordCount (now table) (walk .step / count)) × (listRefusalOf (now shots) (wordsOf row) ≡ 0) × (z ≡ walk .step % count) × Known (now shots) (now table) (walk .rows) (now index) sure ⌝ }
-    ensures { λ r. ⌜ (afterStep (now (table .exit)) r ≡ stepOf (plane (now (shots .entry))) (now (table .entry)) (readWalk walk)) × Known (now (shots .entry)) (now (table .exit)) (r .walk .rows) (now (index .exit)) sure ⌝ }
+    requires { ⌜ Going (now shots) (now plus) (now minus) (now held) count (now table) (readWalk walk) × (walk .step < walk .rows * count) × (wordsOf row ≡ rowOf wordCount (now table) (walk .step / count)) × (listRefusalOf (now shots) (wordsOf row) ≡ 0) × (z ≡ walk .step % count) × Indexed (now table) (walk .rows) (now index) ⌝ }
+    ensures { λ r. ⌜ (afterStep (now (table .exit)) r ≡ stepOf (plane (now (shots .entry))) (now (table .entry)) (readWalk walk)) × Indexed (now (table .exit)) (r .walk .rows) (now (index .exit)) ⌝ }
 {
     let turned = ready::core::turn(shots, plus, minus, held, count, row, z);
     if !turned.found {
         return passed(walk);
     }
     let next = turned.list;
-    settle(shots, held, count, table, index, walk, sure, next)
+    table::place(table, index, walk, next)
 }
 
 // The next b steps, all of them along one row that is accepted.
@@ -115,12 +84,11 @@ fn along(
     table: &mut [u64],
     index: &mut [u16],
     walk: Walk,
-    sure: bool,
     b: usize,
     row: Triples,
 ) -> AfterStep
-    requires { ⌜ Going (now shots) (now plus) (now minus) (now held) count (now table) (readWalk walk) × (walk .step < walk .rows * count) × (b ≤ count - walk .step % count) × (wordsOf row ≡ rowOf wordCount (now table) (walk .step / count)) × (listRefusalOf (now shots) (wordsOf row) ≡ 0) × Known (now shots) (now table) (walk .rows) (now index) sure ⌝ }
-    ensures { λ r. ⌜ (afterStep (now (table .exit)) r ≡ stepsOf (plane (now (shots .entry))) b (now (table .entry)) (readWalk walk)) × Known (now (shots .entry)) (now (table .exit)) (r .walk .rows) (now (index .exit)) sure ⌝ }
+    requires { ⌜ Going (now shots) (now plus) (now minus) (now held) count (now table) (readWalk walk) × (walk .step < walk .rows * count) × (b ≤ count - walk .step % count) × (wordsOf row ≡ rowOf wordCount (now table) (walk .step / count)) × (listRefusalOf (now shots) (wordsOf row) ≡ 0) × Indexed (now table) (walk .rows) (now index) ⌝ }
+    ensures { λ r. ⌜ (afterStep (now (table .exit)) r ≡ stepsOf (plane (now (shots .entry))) b (now (table .entry)) (readWalk walk)) × Indexed (now (table .exit)) (r .walk .rows) (now (index .exit)) ⌝ }
 {
     let first = walk.step % count;
     let mut rows = walk.rows;
@@ -139,7 +107,6 @@ fn along(
             table,
             index,
             now,
-            sure,
             row,
             first + k,
         );
@@ -159,18 +126,18 @@ fn along(
     }
 }
 
-// The number that refuses a row; a row that is known to be accepted is not tested again.
-fn refusal(shots: &[i32], held: &[u64], count: usize, sure: bool, row: Triples) -> u8
-    requires { ⌜ (countOf (now shots) ≤ shotsMost) × (count ≡ length (circuitsOf (now shots))) × (wordCount * heldRows ≤ length (now held)) × Prepared (now shots) (now held) × (sure ≡ true → listRefusalOf (now shots) (wordsOf row) ≡ 0) ⌝ }
+// The number that refuses a row. One that the run wrote is accepted: it is a flip of an accepted one.
+fn refusal(shots: &[i32], held: &[u64], count: usize, written: bool, row: Triples) -> u8
+    requires { ⌜ (countOf (now shots) ≤ shotsMost) × (count ≡ length (circuitsOf (now shots))) × (wordCount * heldRows ≤ length (now held)) × Prepared (now shots) (now held) × (written ≡ true → listRefusalOf (now shots) (wordsOf row) ≡ 0) ⌝ }
     ensures { λ r. ⌜ r ≡ listRefusalOf (now (shots .entry)) (wordsOf row) ⌝ }
 {
-    if sure {
+    if written {
         return 0;
     }
     core::refusal(shots, held, count, row)
 }
 
-// The next b steps: row by row, each tested before its first one. Once the only row is accepted, so are all that follow.
+// The next b steps, row by row.
 pub fn several(
     shots: &[i32],
     plus: &[u16],
@@ -185,7 +152,6 @@ pub fn several(
     requires { ⌜ Going (now shots) (now plus) (now minus) (now held) count (now table) (readWalk walk) × Indexed (now table) (walk .rows) (now index) ⌝ }
     ensures { λ r. ⌜ afterStep (now (table .exit)) r ≡ stepsOf (plane (now (shots .entry))) b (now (table .entry)) (readWalk walk) ⌝ }
 {
-    let mut sure = false;
     let mut rows = walk.rows;
     let mut k = 0;
     while k < b {
@@ -199,15 +165,15 @@ pub fn several(
                 walk: now,
             };
         }
-        let row = rows::row_at(table, now.step / count);
-        let number = refusal(shots, held, count, sure, row);
+        let p = now.step / count;
+        let row = rows::row_at(table, p);
+        let number = refusal(shots, held, count, walk.rows <= p, row);
         if number != 0 {
             return AfterStep {
                 answer: Stepped::Refused(number),
                 walk: now,
             };
         }
-        sure = sure || rows == 1;
         let turn = table::least(b - k, count - now.step % count);
         let out = along(
             shots,
@@ -218,7 +184,6 @@ pub fn several(
             table,
             index,
             now,
-            sure,
             turn,
             row,
         );

@@ -7,7 +7,7 @@ ghost use Rattle.circuits.specs.Sizes.{circuitsMost};
 ghost use Rattle.triples.specs.Sizes.{wordCount};
 ghost use Rattle.triples.specs.Sets.{wordsOf};
 ghost use Rattle.walks.specs.Calls.{readWalk, afterStep, impossibleOf};
-ghost use Rattle.walks.specs.Known.{Indexed};
+ghost use Rattle.walks.specs.Index.{Indexed};
 use super::AfterStep;
 use super::Stepped;
 use super::Walk;

@@ -1,4 +1,4 @@
--- `surfaces::flip` meets its contract: the chain stops at the run, at the list or at the circuit's number, or goes on between the stars of the circuit's sides.
+-- `surfaces::flip` meets its contract: the chain stops at the run, at the list or at the circuit's number, or at the stars of the circuit's sides, neither of which is supported, or gives the list.
 use mathlib.Core.Path.{_≡_, sym, _∙_}
 use mathlib.Core.List.{List}
 use Prim.Native.Nat.{ℕ, _*_, _≤_, _<_}
@@ -8,6 +8,7 @@ use lib.IntN.{ℤ}
 use mir.Syntax.{w64}
 use mir.Val.{Fits}
 use borrow.Author.Needs.{needs}
+use borrow.Author.Tests.{not-true, not-false}
 use Rattle.algebra.specs.Words.{Words}
 use Rattle.shots.specs.Sizes.{shotsMost}
 use Rattle.shots.specs.Patch.{countOf}
@@ -20,8 +21,10 @@ use Rattle.triples.specs.Sizes.{wordCount}
 use Rattle.triples.specs.Sets.{wordsOf}
 use Rattle.triples.proofs.SetLaws.{words-of}
 use Rattle.lists.specs.Held.{heldRows}
+use Rattle.surfaces.specs.Calls.{flipOf}
+use Rattle.surfaces.specs.Stars.{foundAnswer}
 use Rattle.surfaces.proofs.ByStars.{sum-below, sum-low}
-use Rattle.surfaces.proofs.CallChains.{flip-stops, flip-unlisted, flip-unnumbered, flip-turned}
+use Rattle.surfaces.proofs.CallChains.{found-none, found-some, flip-stops, flip-unlisted, flip-unnumbered, flip-turned}
 use Rattle.surfaces.proofs.flip.Statement.{statement}
 use Rattle.surfaces.proofs.flip.Tie as tie
 
@@ -118,15 +121,14 @@ star-requires-2 c κs =
     let n = listed d in
     (few n, omega (arith, few n, room d), done n .prepare .ensures .2 .holding)
 
-tested-requires : tie.Need-tested-requires
-tested-requires c κs =
+between-requires : tie.Need-between-requires
+between-requires c κs =
     let p = c .before .before in
     let d = p .before .before .before in
     let n = listed d in (
       few n,
-      counted n,
-      room d,
-      done n .prepare .ensures .2,
+      omega (arith, few n, room d),
+      done n .prepare .ensures .2 .holding,
       sum-below (l n) (few n) (z n) (low d) _ _ (done n .prepare .ensures .1 (z n) (low d)),
       (_, p .star .ensures),
       (_, c .star2 .ensures),
@@ -135,14 +137,28 @@ tested-requires c κs =
 words : (s : tie.Start) → Words wordCount (wordsOf (s .args .list))
 words s = words-of (s .args .list) (omega arith) (omega arith)
 
+-- what was found between the stars
+module _ (c : tie.After-between) where
+  abbrev both : tie.After-star2
+  both = c .before
+
+  abbrev one : tie.After-star
+  one = both .before .before
+
+  abbrev numbered : tie.Else3
+  numbered = one .before .before .before
+
+  turned : let n = listed numbered in foundAnswer (c .between .result .found) (wordsOf (c .between .result .list)) ≡ flipOf (l n) (w n) (z n)
+  turned =
+      let n = listed numbered in
+      flip-turned (l n) (w n) (z n) (run n .before .refusal .ensures) (run n .if1 .left) (n .refusal2 .ensures) (numbered .before .if2 .left)
+      (words (run n .before .before)) (low numbered) _ _ (done n .prepare .ensures .1 (z n) (low numbered)) (one .star .ensures) (both .star2 .ensures) (c .between .ensures .0) (c .between .ensures .1)
+
 returns-4 : tie.Need-returns-4
-returns-4 c =
-    let m = c .before in
-    let p = m .before .before in
-    let d = p .before .before .before in
-    let n = listed d in
-    flip-turned (l n) (w n) (z n) (run n .before .refusal .ensures) (run n .if1 .left) (n .refusal2 .ensures) (d .before .if2 .left)
-    (words (run n .before .before)) (low d) _ _ (done n .prepare .ensures .1 (z n) (low d)) (p .star .ensures) (m .star2 .ensures) (c .tested .ensures)
+returns-4 c = let b = c .before .before in found-none _ _ (not-true (b .between .result .found) (c .if4 .taken)) ∙ turned b
+
+returns-5 : tie.Need-returns-5
+returns-5 c = let e = c .before in let b = e .before .before in found-some _ _ (not-false (b .between .result .found) (e .if4 .left)) ∙ turned b
 
 pub flip-spec : {M : Type 1} → statement M
 flip-spec =
@@ -168,5 +184,6 @@ flip-spec =
     star-requires
     (λ c. search needs)
     star-requires-2
-    tested-requires
-    returns-4)
+    between-requires
+    returns-4
+    returns-5)

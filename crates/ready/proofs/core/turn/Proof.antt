@@ -19,7 +19,7 @@ use Rattle.triples.specs.Sets.{wordsOf}
 use Rattle.triples.proofs.SetLaws.{words-of}
 use Rattle.surfaces.specs.Stars.{starOf}
 use Rattle.surfaces.proofs.ByStars.{sum-below, sum-low}
-use Rattle.surfaces.proofs.CallChains.{turn-is, flip-turned}
+use Rattle.surfaces.proofs.CallChains.{flip-turned}
 use Rattle.ready.proofs.ReadyLaws.{star-plus, star-minus}
 use Rattle.ready.proofs.core.turn.Statement.{statement}
 use Rattle.ready.proofs.core.turn.Tie as tie
@@ -111,7 +111,7 @@ returns c =
     let a = c .before in
     let s = start a in
     flip-turned (l s) (w s) (z s) refl (s .pre .0) refl (s .pre .3) (words s) (low s) (p s) (m s) (s .pre .1 .sides (z s) (low s)) (plus-star a) (minus-star a)
-    (turn-is (l s) (p s + m s) _ _ (w s) (c .between .ensures .0) (c .between .ensures .1))
+    (c .between .ensures .0) (c .between .ensures .1)
 
 pub turn-spec : {M : Type 1} → statement M
 turn-spec =

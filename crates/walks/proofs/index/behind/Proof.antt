@@ -6,7 +6,7 @@ use borrow.Author.Needs.{needs}
 use Rattle.triples.specs.Sizes.{wordCount}
 use Rattle.triples.specs.Sets.{wordsOf}
 use Rattle.reach.proofs.StepLaws.{seen-at}
-use Rattle.walks.specs.Known.{coveredOf}
+use Rattle.walks.specs.Index.{coveredOf}
 use Rattle.walks.proofs.ScanLaws.{Unseen, unseen-none, unseen-more, unseen-end}
 use Rattle.walks.proofs.index.behind.Statement.{statement}
 use Rattle.walks.proofs.index.behind.Tie as tie

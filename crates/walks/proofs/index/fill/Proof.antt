@@ -5,7 +5,7 @@ use native.Mathlib.Omega.{arith}
 use lib.ListN.{length, length-replicate}
 use borrow.Author.Needs.{needs}
 use Rattle.triples.specs.Sets.{wordsOf}
-use Rattle.walks.specs.Known.{spots, indexedMost, Indexed}
+use Rattle.walks.specs.Index.{spots, indexedMost, Indexed}
 use Rattle.walks.proofs.IndexLaws.{indexed-none, indexed-noted}
 use Rattle.walks.proofs.index.fill.Statement.{statement}
 use Rattle.walks.proofs.index.fill.Tie as tie

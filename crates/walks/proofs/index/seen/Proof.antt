@@ -7,7 +7,7 @@ use borrow.Author.Needs.{needs}
 use Rattle.reach.specs.Walks.{seenIn}
 use Rattle.triples.specs.Sizes.{wordCount}
 use Rattle.triples.specs.Sets.{wordsOf}
-use Rattle.walks.specs.Known.{spots, coveredOf, Indexed}
+use Rattle.walks.specs.Index.{spots, coveredOf, Indexed}
 use Rattle.walks.proofs.IndexLaws.{Chained, chained-first, chained-next, chained-less, chained-found, chained-end}
 use Rattle.walks.proofs.index.seen.Statement.{statement}
 use Rattle.walks.proofs.index.seen.Tie as tie

@@ -5,7 +5,7 @@ use lib.ListN.{drop}
 use borrow.Author.Needs.{needs}
 use Rattle.triples.specs.Sizes.{wordCount}
 use Rattle.triples.specs.Sets.{wordsOf}
-use Rattle.walks.specs.Known.{spots, spotFrom, spotOf}
+use Rattle.walks.specs.Index.{spots, spotFrom, spotOf}
 use Rattle.walks.proofs.IndexLaws.{spot-none, spot-on, spot-end}
 use Rattle.walks.proofs.index.spot.Statement.{statement}
 use Rattle.walks.proofs.index.spot.Tie as tie

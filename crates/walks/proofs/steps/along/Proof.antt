@@ -13,17 +13,17 @@ use Rattle.reach.proofs.ReachLaws.{tried-circuit}
 use Rattle.reach.proofs.RunLaws.{steps-one}
 use Rattle.circuits.specs.Sizes.{circuitsMost}
 use Rattle.walks.specs.Calls.{plane, readWalk, afterStep, isMade}
-use Rattle.walks.specs.Known.{Known}
+use Rattle.walks.specs.Index.{Indexed}
 use Rattle.walks.proofs.StepsLaws.{circuit-on, is-made, not-made, later, SoFar, far-none, far-on, far-stop, far-all, going-below, going-few, going-small, going-on, row-stays}
 use Rattle.walks.proofs.steps.along.Statement.{statement}
 use Rattle.walks.proofs.steps.along.Tie as tie
 
 abbrev Inv-loop : tie.InvT-loop
-Inv-loop shots plus minus held count table₀ index₀ walk sure b row first rows₀ k₀ table index rows k =
-    SoFar shots table₀ (readWalk walk) b k table rows × Known shots table rows index sure
+Inv-loop shots plus minus held count table₀ index₀ walk b row first rows₀ k₀ table index rows k =
+    SoFar shots table₀ (readWalk walk) b k table rows × Indexed table rows index
 
 abbrev μ-loop : tie.MeasureT-loop
-μ-loop shots plus minus held count table₀ index₀ walk sure b row first rows₀ k₀ table index rows k = b - k
+μ-loop shots plus minus held count table₀ index₀ walk b row first rows₀ k₀ table index rows k = b - k
 
 rem-first : tie.Need-rem-first Inv-loop μ-loop
 rem-first c = let s = c .before .before .before .before .before .before in tried-circuit (s .args .walk .rows) (s .args .walk .step) (s .args .count) (s .pre .1)
@@ -91,8 +91,8 @@ module _ (c : tie.After-made Inv-loop μ-loop) where
   next : x ≡ stepsOf (plane (l here)) 1 (t here) (w here)
   next = called .one .ensures .0 ∙ sym (steps-one (plane (l here)) (t here) (w here))
 
-  knows : Known (l here) (x .table) (x .walk .rows) (called .one .last .1 .1 .1 .1 .1 .1 .0) (start here .args .sure)
-  knows = called .one .ensures .1
+  indexed : Indexed (x .table) (x .walk .rows) (called .one .last .1 .1 .1 .1 .1 .1 .0)
+  indexed = called .one .ensures .1
 
   answered : {v : Bool} → c .made .result ≡ v → isMade (x .answer) ≡ v
   answered e = sym (c .made .ensures) ∙ e
@@ -107,22 +107,22 @@ same-length : tie.Need-same-length Inv-loop μ-loop
 same-length c = let p = c .before in kept p ∙ here p .loop .inv .0 .lasts
 
 same-length-2 : tie.Need-same-length-2 Inv-loop μ-loop
-same-length-2 c = let p = c .before in knows p .indexed .room ∙ sym (start (here p) .pre .5 .indexed .room)
+same-length-2 c = let p = c .before in indexed p .room ∙ sym (start (here p) .pre .5 .room)
 
 returns : tie.Need-returns Inv-loop μ-loop
-returns c = let p = c .before in (far-stop (here p .loop .inv .0) 1 (more p) (x p) (next p) (not-made _ (answered p (not-true _ (c .if1 .taken)))), knows p)
+returns c = let p = c .before in (far-stop (here p .loop .inv .0) 1 (more p) (x p) (next p) (not-made _ (answered p (not-true _ (c .if1 .taken)))), indexed p)
 
 add-k : tie.Need-add-k Inv-loop μ-loop
 add-k c = let p = c .before in let h = more p in let f = few (here p) in record { fits = omega arith }
 
 loop-again : tie.Need-loop-again Inv-loop μ-loop
-loop-again c = let p = c .before in (far-on (here p .loop .inv .0) 1 (more p) (x p) (next p) (is-made (x p .answer) (answered p (not-false _ (c .if1 .left)))) (kept p), knows p)
+loop-again c = let p = c .before in (far-on (here p .loop .inv .0) 1 (more p) (x p) (next p) (is-made (x p .answer) (answered p (not-false _ (c .if1 .left)))) (kept p), indexed p)
 
-add-t26 : tie.Need-add-t26 Inv-loop μ-loop
-add-t26 c = let a = c .before .before in let h = small a in let f = few a in record { fits = omega arith }
+add-t25 : tie.Need-add-t25 Inv-loop μ-loop
+add-t25 c = let a = c .before .before in let h = small a in let f = few a in record { fits = omega arith }
 
 same-length-4 : tie.Need-same-length-4 Inv-loop μ-loop
-same-length-4 c = let a = c .before .before in a .loop .inv .1 .indexed .room ∙ sym (start a .pre .5 .indexed .room)
+same-length-4 c = let a = c .before .before in a .loop .inv .1 .room ∙ sym (start a .pre .5 .room)
 
 returns-2 : tie.Need-returns-2 Inv-loop μ-loop
 returns-2 c = let i = c .before .before .loop .inv in (far-all (i .0) (c .before .loop-test .left), i .1)
@@ -145,7 +145,7 @@ along-spec =
     add-k
     (λ c. search needs)
     loop-again
-    add-t26
+    add-t25
     (λ c. search needs)
     same-length-4
     returns-2)

@@ -1,6 +1,6 @@
 -- `walks::steps::one` meets its contract: a step is what it makes of the flip of its row.
 use mathlib.Core.Path.{_≡_, refl, sym, _∙_, ap}
-use mathlib.Core.Bool.{Bool, false}
+use mathlib.Core.Bool.{Bool, true, false}
 use mathlib.Core.List.{List}
 use Prim.Native.Nat.{ℕ, _*_, _<_}
 use native.Mathlib.Omega.{arith}
@@ -12,14 +12,13 @@ use Rattle.algebra.specs.Answer.{Answer}
 use Rattle.reach.specs.Walks.{WalkRecord, Landing, rowsMost, afterFlip, stepOf}
 use Rattle.reach.proofs.ReachLaws.{tried-circuit}
 use Rattle.reach.proofs.StepLaws.{after-none}
-use Rattle.shots.proofs.Patch.{patch-few}
 use Rattle.circuits.specs.Sizes.{circuitsMost}
 use Rattle.triples.specs.Sets.{wordsOf}
 use Rattle.surfaces.specs.Calls.{flipOf}
 use Rattle.surfaces.specs.Stars.{foundAnswer}
-use Rattle.surfaces.proofs.CallChains.{found-none}
+use Rattle.surfaces.proofs.CallChains.{found-none, found-some}
 use Rattle.walks.specs.Calls.{plane, readWalk}
-use Rattle.walks.proofs.StepsLaws.{landed, known-counted, going-fits, going-small, step-along}
+use Rattle.walks.proofs.StepsLaws.{landed, indexed-counted, going-fits, going-small, step-along}
 use Rattle.walks.proofs.steps.one.Statement.{statement}
 use Rattle.walks.proofs.steps.one.Tie as tie
 
@@ -66,8 +65,8 @@ module _ (c : tie.After-struct-known) where
   list = wordsOf (c .before .turn .result .list)
 
   -- x is what a callee left
-  given : {b : Bool} → found ≡ b → {x : Landing} → x ≡ afterFlip (plane (l start)) (t start) (w start) (foundAnswer (l start) b list) → x ≡ stepOf (plane (l start)) (t start) (w start)
-  given e is = is ∙ step-is start (ap (λ (b : Bool). foundAnswer (l start) b list) (sym e) ∙ c .before .turn .ensures)
+  given : {b : Bool} → found ≡ b → {x : Landing} → x ≡ afterFlip (plane (l start)) (t start) (w start) (foundAnswer b list) → x ≡ stepOf (plane (l start)) (t start) (w start)
+  given e is = is ∙ step-is start (ap (λ (b : Bool). foundAnswer b list) (sym e) ∙ c .before .turn .ensures)
 
 passed-requires : tie.Need-passed-requires
 passed-requires c κs = small (start (c .before))
@@ -76,23 +75,19 @@ returns : tie.Need-returns
 returns c =
     let d = c .before .before in
     let s = start d in
-    let n = found-none (l s) false (list d) refl in (
+    let n = found-none false (list d) refl in (
       given d (not-true _ (c .before .if1 .taken)) (landed (c .passed .result) (w s) (c .passed .ensures) ∙ sym (after-none (plane (l s)) (t s) (w s) 13 refl) ∙ ap (afterFlip (plane (l s)) (t s) (w s)) n),
-      known-counted (c .passed .result) (w s) (c .passed .ensures) (s .pre .5),
+      indexed-counted (c .passed .result) (w s) (c .passed .ensures) (s .pre .5),
     )
 
-settle-requires : tie.Need-settle-requires
-settle-requires c κs =
-    let s = start (c .before .before .before .before) in
-    let g = s .pre .0 in
-    let h = g .ready .held-room in
-    (patch-few _ (g .patch) .1, g .circuits, omega arith, g .ready .tests, going-fits g, small s, s .pre .5)
+place-requires : tie.Need-place-requires
+place-requires c κs = let s = start (c .before .before .before .before) in (going-fits (s .pre .0), small s, s .pre .5)
 
 returns-2 : tie.Need-returns-2
 returns-2 c =
     let a = c .before .before .before .before in
     let e = a .before .before .before .before in
-    (given (e .before) (not-false _ (e .if1 .left)) (a .settle .ensures .0), a .settle .ensures .1)
+    (given (e .before) (not-false _ (e .if1 .left)) (a .place .ensures .0 ∙ ap (afterFlip (plane _) _ _) (found-some true _ refl)), a .place .ensures .1)
 
 pub one-spec : {M : Type 1} → statement M
 one-spec =
@@ -101,7 +96,7 @@ one-spec =
     turn-requires
     passed-requires
     returns
-    settle-requires
+    place-requires
     (λ c. search needs)
     (λ c. search needs)
     returns-2)

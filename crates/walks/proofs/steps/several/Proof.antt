@@ -1,6 +1,5 @@
 -- `walks::steps::several` meets its contract: so many of the steps are made so far, row by row.
 use mathlib.Core.Path.{_≡_, sym, _∙_, ap}
-use mathlib.Core.Logic.{⊎-elim}
 use mathlib.Core.Bool.{Bool}
 use mathlib.Core.List.{List}
 use Prim.Native.Nat.{ℕ, _+_, _-_, _*_, _/_, _%_, _≤_, _<_}
@@ -9,7 +8,7 @@ use native.Mathlib.Nat.{le-of-lt, mod-lt}
 use lib.ListN.{length}
 use lib.IntN.{ℤ}
 use borrow.Author.Needs.{needs}
-use borrow.Author.Tests.{not-true, not-false, eqb-true}
+use borrow.Author.Tests.{not-true, not-false, leb-true}
 use Rattle.algebra.specs.Answer.{gives}
 use Rattle.algebra.proofs.AnswerLaws.{given-refused}
 use Rattle.reach.specs.Walks.{WalkRecord, made, Landing, rowsMost, stepOf, stepsOf}
@@ -22,22 +21,21 @@ use Rattle.triples.specs.Sets.{wordsOf}
 use Rattle.lists.specs.Tests.{listRefusalOf}
 use Rattle.walks.specs.Calls.{plane, readWalk, afterStep, isMade}
 use Rattle.walks.specs.Going.{Going}
-use Rattle.walks.specs.Known.{Known}
-use Rattle.walks.proofs.SoundLaws.{sound-only, known-none}
-use Rattle.walks.proofs.StepsLaws.{turn-facts, is-made, not-made, later, SoFar, far-none, far-on, far-stop, far-all}
-use Rattle.walks.proofs.StepsLaws.{going-below, going-small, going-room, going-on, step-ends, step-unlisted}
+use Rattle.walks.specs.Index.{Indexed}
+use Rattle.walks.proofs.StepsLaws.{turn-facts, is-made, not-made, later, SoFar, far-none, far-on, far-stop, far-all, far-written}
+use Rattle.walks.proofs.StepsLaws.{going-fits, going-below, going-small, going-room, going-on, step-ends, step-unlisted}
 use Rattle.walks.proofs.steps.several.Statement.{statement}
 use Rattle.walks.proofs.steps.several.Tie as tie
 
 abbrev Inv-loop : tie.InvT-loop
-Inv-loop shots plus minus held count table₀ index₀ walk b sure₀ rows₀ k₀ table index sure rows k =
-    SoFar shots table₀ (readWalk walk) b k table rows × Known shots table rows index sure
+Inv-loop shots plus minus held count table₀ index₀ walk b rows₀ k₀ table index rows k =
+    SoFar shots table₀ (readWalk walk) b k table rows × Indexed table rows index
 
 abbrev μ-loop : tie.MeasureT-loop
-μ-loop shots plus minus held count table₀ index₀ walk b sure₀ rows₀ k₀ table index sure rows k = b - k
+μ-loop shots plus minus held count table₀ index₀ walk b rows₀ k₀ table index rows k = b - k
 
 loop-holds : tie.Need-loop-holds Inv-loop μ-loop
-loop-holds c = (far-none _ _ _ _, known-none (c .before .before .before .before .before .pre .1))
+loop-holds c = (far-none _ _ _ _, c .before .before .before .before .before .pre .1)
 
 -- between the rounds
 module _ (c : tie.At-loop Inv-loop μ-loop) where
@@ -65,11 +63,8 @@ module _ (c : tie.At-loop Inv-loop μ-loop) where
   abbrev asked : Landing
   asked = stepsOf (plane l) b (start .args .table .now) (readWalk (start .args .walk))
 
-  knows : Known l t (w .rows) (c .loop .index) (c .loop .sure)
-  knows = c .loop .inv .1
-
   same-index : length (c .loop .index) ≡ length (start .args .index .now)
-  same-index = knows .indexed .room ∙ sym (start .pre .1 .room)
+  same-index = c .loop .inv .1 .room ∙ sym (start .pre .1 .room)
 
   going : Going l (start .args .plus .now) (start .args .minus .now) (start .args .held .now) count t w
   going = going-on (start .pre .0) (c .loop .inv .0)
@@ -115,8 +110,8 @@ module _ (c : tie.Else1 Inv-loop μ-loop) where
   some : 0 < count here
   some = tried-circuit (w here .rows) (w here .step) (count here) ahead
 
-div-row-at : tie.Need-div-row-at Inv-loop μ-loop
-div-row-at c = some (c .before .before)
+div-p : tie.Need-div-p Inv-loop μ-loop
+div-p c = some (c .before)
 
 row-at-requires : tie.Need-row-at-requires Inv-loop μ-loop
 row-at-requires c κs = let d = c .before .before in going-room (going (here d)) (ahead d)
@@ -127,54 +122,46 @@ ahead-of c = c .before .before .before
 
 refusal-requires : tie.Need-refusal-requires Inv-loop μ-loop
 refusal-requires c κs =
-    let d = ahead-of c in
-    let g = going (here d) in
+    let r = c .before in
+    let d = ahead-of r in
+    let a = here d in
+    let g = going a in
     let h = g .ready .held-room in
-    (patch-few _ (g .patch) .1, g .circuits, omega arith, g .ready .tests, λ e. ap (listRefusalOf (l (here d))) (c .row-at .ensures) ∙ knows (here d) .sound e _ (tried d))
+    let p = start a .pre .0 in (
+      patch-few _ (g .patch) .1,
+      g .circuits,
+      omega arith,
+      g .ready .tests,
+      λ e. ap (listRefusalOf (l a)) (r .row-at .ensures) ∙ far-written (a .loop .inv .0) (p .patch) (going-fits p) _ (leb-true _ _ e) (tried d),
+    )
 
 same-length-4 : tie.Need-same-length-4 Inv-loop μ-loop
-same-length-4 c = same-index (here (ahead-of (c .before .before)))
+same-length-4 c = same-index (here (ahead-of (c .before .before .before)))
 
 returns-2 : tie.Need-returns-2 Inv-loop μ-loop
 returns-2 c =
-    let r = c .before .before in
+    let r = c .before .before .before in
     let d = ahead-of r in
     stops (round d) (step-unlisted (going (here d)) _ (ahead d) (r .row-at .ensures) (c .before .refusal .ensures) (c .if2 .taken)) (λ e. given-refused (sym e))
-
-rem-least : tie.Need-rem-least Inv-loop μ-loop
-rem-least c = some (ahead-of (c .before .before .before .before))
-
-sub-least-2 : tie.Need-sub-least-2 Inv-loop μ-loop
-sub-least-2 c = le-of-lt (mod-lt _ (some (ahead-of (c .before .before .before .before))))
 
 -- it is accepted
 module _ (c : tie.Else2 Inv-loop μ-loop) where
   abbrev good : tie.Else1 Inv-loop μ-loop
-  good = ahead-of (c .before .before)
+  good = ahead-of (c .before .before .before)
 
-  accepted : listRefusalOf (l (here good)) (wordsOf (c .before .before .row-at .result)) ≡ 0
+  accepted : listRefusalOf (l (here good)) (wordsOf (c .before .before .before .row-at .result)) ≡ 0
   accepted = sym (c .before .refusal .ensures) ∙ c .if2 .left
 
--- so are all rows, where they were or it is the only one
-surer : (c : tie.Joined3 Inv-loop μ-loop) → let a = here (good (c .before)) in Known (l a) (t a) (w a .rows) (a .loop .index) (c .if3 .sure)
-surer c =
-    let e = c .before in
-    let d = good e in
-    let a = here d in
-    record {
-      indexed = knows a .indexed;
-      sound = λ q. ⊎-elim (λ p. knows a .sound (p .0 .taken))
-          (λ p. sound-only (l a) (t a) (w a .rows) _ (eqb-true _ _ (sym (p .1) ∙ q)) (tried d) (ap (listRefusalOf (l a)) (sym (e .before .before .row-at .ensures)) ∙ accepted e))
-          (c .if3 .came);
-    }
+rem-least : tie.Need-rem-least Inv-loop μ-loop
+rem-least c = some (good (c .before))
+
+sub-least-2 : tie.Need-sub-least-2 Inv-loop μ-loop
+sub-least-2 c = le-of-lt (mod-lt _ (some (good (c .before))))
 
 -- it is good for so many steps
 module _ (c : tie.After-least Inv-loop μ-loop) where
-  abbrev flag : tie.Joined3 Inv-loop μ-loop
-  flag = c .before .before
-
   abbrev row : tie.After-row-at Inv-loop μ-loop
-  row = flag .before .before .before
+  row = c .before .before .before .before .before
 
   abbrev then : tie.At-loop Inv-loop μ-loop
   then = here (ahead-of row)
@@ -191,7 +178,7 @@ along-requires : tie.Need-along-requires Inv-loop μ-loop
 along-requires c κs =
     let p = c .before .before in
     let r = row p in
-    (going (then p), ahead (ahead-of r), turns p .2, r .row-at .ensures, accepted (flag p .before), surer (flag p))
+    (going (then p), ahead (ahead-of r), turns p .2, r .row-at .ensures, accepted (p .before .before), then p .loop .inv .1)
 
 -- after the steps along it
 module _ (c : tie.After-made Inv-loop μ-loop) where
@@ -204,7 +191,7 @@ module _ (c : tie.After-made Inv-loop μ-loop) where
   abbrev x : Landing
   x = afterStep (called .along .last .1 .1 .1 .1 .1 .0) (called .along .result)
 
-  still : Known (l (then least)) (x .table) (x .walk .rows) (called .along .last .1 .1 .1 .1 .1 .1 .0) (flag least .if3 .sure)
+  still : Indexed (x .table) (x .walk .rows) (called .along .last .1 .1 .1 .1 .1 .1 .0)
   still = called .along .ensures .1
 
   answered : {v : Bool} → c .made .result ≡ v → isMade (x .answer) ≡ v
@@ -220,12 +207,12 @@ same-length-5 : tie.Need-same-length-5 Inv-loop μ-loop
 same-length-5 c = let p = c .before in kept p ∙ then (least p) .loop .inv .0 .lasts
 
 same-length-6 : tie.Need-same-length-6 Inv-loop μ-loop
-same-length-6 c = let p = c .before in still p .indexed .room ∙ sym (start (then (least p)) .pre .1 .room)
+same-length-6 c = let p = c .before in still p .room ∙ sym (start (then (least p)) .pre .1 .room)
 
 returns-3 : tie.Need-returns-3 Inv-loop μ-loop
 returns-3 c =
     let p = c .before in
-    far-stop (then (least p) .loop .inv .0) (turn (least p)) (more p) (x p) (called p .along .ensures .0) (not-made _ (answered p (not-true _ (c .if4 .taken))))
+    far-stop (then (least p) .loop .inv .0) (turn (least p)) (more p) (x p) (called p .along .ensures .0) (not-made _ (answered p (not-true _ (c .if3 .taken))))
 
 add-k : tie.Need-add-k Inv-loop μ-loop
 add-k c = let p = c .before in let h = more p in let g = turns (least p) .0 in let f = start (then (least p)) .fits .b in record { fits = omega arith }
@@ -236,12 +223,12 @@ loop-less c = let p = c .before in let h = more p in let f = turns (least p) .0 
 loop-again : tie.Need-loop-again Inv-loop μ-loop
 loop-again c =
     let p = c .before in (
-      far-on (then (least p) .loop .inv .0) (turn (least p)) (more p) (x p) (called p .along .ensures .0) (is-made (x p .answer) (answered p (not-false _ (c .if4 .left)))) (kept p),
+      far-on (then (least p) .loop .inv .0) (turn (least p)) (more p) (x p) (called p .along .ensures .0) (is-made (x p .answer) (answered p (not-false _ (c .if3 .left)))) (kept p),
       still p,
     )
 
-add-t34 : tie.Need-add-t34 Inv-loop μ-loop
-add-t34 c = let f = step-small (c .before .before) in let h = c .before .loop-test .left in record { fits = omega arith }
+add-t33 : tie.Need-add-t33 Inv-loop μ-loop
+add-t33 c = let f = step-small (c .before .before) in let h = c .before .loop-test .left in record { fits = omega arith }
 
 same-length-8 : tie.Need-same-length-8 Inv-loop μ-loop
 same-length-8 c = same-index (c .before .before)
@@ -261,7 +248,7 @@ several-spec =
     (λ c. search needs)
     same-length-2
     returns
-    div-row-at
+    div-p
     row-at-requires
     refusal-requires
     (λ c. search needs)
@@ -279,7 +266,7 @@ several-spec =
     add-k
     loop-less
     loop-again
-    add-t34
+    add-t33
     (λ c. search needs)
     same-length-8
     returns-4)

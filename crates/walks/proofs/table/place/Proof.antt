@@ -10,7 +10,7 @@ use Rattle.reach.specs.Walks.{made, leaves, seenIn, grown}
 use Rattle.triples.specs.Sizes.{wordCount}
 use Rattle.triples.specs.Sets.{wordsOf}
 use Rattle.walks.specs.Calls.{readWalk}
-use Rattle.walks.specs.Known.{notedOf, Indexed}
+use Rattle.walks.specs.Index.{notedOf, Indexed}
 use Rattle.reach.proofs.StepLaws.{store-known, store-full, store-new}
 use Rattle.walks.proofs.IndexLaws.{indexed-placed}
 use Rattle.walks.proofs.table.place.Statement.{statement}

@@ -1,25 +1,22 @@
--- What a run knows of the rows of its table: an index over them, and whether all of them are accepted.
+-- The index that a run keeps over the rows of its table.
 --
 --   spots, indexedMost     the places of the index, and how many rows it covers: the first ones
 --   spotOf w               the place of a row by its words
 --   latestOf t s m         the last of the first m rows of the table t that has the place s, as its number plus 1; 0 where none has
 --   coveredOf n            how many of n rows the index covers
 --   notedOf x p w          the index x with row p, the words w, put in
---   Indexed t n x          at each place s of x stands the last covered row of the place s; behind the places, for each covered row, the one before it of the same place
---   Sound l t n            the first n rows are accepted
---   Known l t n x b        the index x is that of the first n rows of t; where b is true, all of them are accepted
+--   Indexed t n x          x is the index of the first n rows of t: at each place s stands the last covered row of the place s; behind the places, for each covered row, the one before it
+--                          of the same place
 --
--- Laws: proofs/IndexLaws, proofs/SoundLaws.
+-- Laws: proofs/IndexLaws.
 use mathlib.Core.Path.{_≡_}
-use mathlib.Core.Bool.{Bool, true, cond}
+use mathlib.Core.Bool.{cond}
 use mathlib.Core.List.{List, [], _∷_}
 use Prim.Native.Nat.{ℕ, zero, suc, _+_, _*_, _%_, _<_, min}
 use lib.Dec.{ltb, eqb}
 use lib.ListN.{length, getD, set}
-use lib.IntN.{ℤ}
 use Rattle.algebra.specs.Words.{rowOf}
 use Rattle.triples.specs.Sizes.{wordCount}
-use Rattle.lists.specs.Tests.{listRefusalOf}
 
 abbrev pub spots : ℕ
 spots = 1021
@@ -48,10 +45,3 @@ pub record Indexed (table : List ℕ) (rows : ℕ) (index : List ℕ) : Type 0 w
   pub room : length index ≡ spots + indexedMost
   pub heads : (s : ℕ) → s < spots → getD index s 0 ≡ latestOf table s (coveredOf rows)
   pub links : (p : ℕ) → p < coveredOf rows → getD index (spots + p) 0 ≡ latestOf table (spotOf (rowOf wordCount table p)) p
-
-abbrev pub Sound : List ℤ → List ℕ → ℕ → Type 0
-Sound l t n = (p : ℕ) → p < n → listRefusalOf l (rowOf wordCount t p) ≡ 0
-
-pub record Known (l : List ℤ) (table : List ℕ) (rows : ℕ) (index : List ℕ) (sure : Bool) : Type 0 where
-  pub indexed : Indexed table rows index
-  pub sound : sure ≡ true → Sound l table rows
