@@ -1,11 +1,12 @@
 -- Sizes of whole numbers (`natAbs`), and what a signed width holds.
 --
+--   natAbs-zero               a number of size 0 is 0
 --   natAbs-neg, natAbs-add, natAbs-sub, natAbs-mul, mul-size    sizes of sums and products
 --   sfits-size, size-sfits    a number fits a signed width where its size is small, and the other way round
 --   read-back                 what is read from the bits of a result is the result
 --   eqb-ofZ                   two numbers are the same where their bits are
 --   signs-same, sign-is-*, below-is-minus    the machine's tests of signs -1, 0, 1, and of a number below 0
-use mathlib.Core.Path.{_≡_, refl, sym, _∙_, subst}
+use mathlib.Core.Path.{_≡_, refl, sym, _∙_, ap, subst}
 use mathlib.Core.Bool.{Bool, true, false, cond}
 use Prim.Native.Nat.{ℕ, zero, suc, _+_, _*_, _-_, _^_, _<_, _≤_}
 use native.Mathlib.Omega.{arith}
@@ -18,6 +19,10 @@ use mir.Syntax.{Width, w8}
 use mir.Val.{SFits, hbits, bits, toZ, ofZ}
 use mir.ValLaws.{toZ-ofZ, pow-bits}
 use Rattle.algebra.specs.Sign.{Sign, minus, nought, plus, signOf, value, isMinus, isNought, isPlus, sameSign, eqZ}
+
+pub natAbs-zero : (z : ℤ) → natAbs z ≡ 0 → z ≡ pos 0
+natAbs-zero (pos n) e = ap pos e
+natAbs-zero (negsuc n) e = absurd (omega arith)
 
 pub natAbs-neg : (z : ℤ) → natAbs (negℤ z) ≡ natAbs z
 natAbs-neg (pos zero) = refl

@@ -14,7 +14,6 @@ use mathlib.Core.Logic.{_⊎_, inl, inr, ⊎-elim}
 use mathlib.Core.Bool.{Bool, true, false, cond}
 use mathlib.Core.List.{List, [], _∷_, _++_, List·Memᴰ}
 use Prim.Native.Nat.{ℕ, zero, suc, _+_, _<_}
-use native.Mathlib.Omega.{arith}
 use lib.ListN.{length}
 use lib.IntN.{ℤ, pos, negsuc, natAbs, _+ℤ_}
 use Rattle.algebra.specs.Loops.{tally}
@@ -25,6 +24,7 @@ use Rattle.algebra.proofs.ListLaws.{Apart, Other, Split, split-at, middle, apar
 use Rattle.algebra.proofs.LoopLaws.{tally-same}
 use Rattle.algebra.proofs.Ring.{cst, var, _⊕_, neg, ring}
 use Rattle.algebra.proofs.SetTests.{mem-on, on-low, numbers-apart}
+use Rattle.algebra.proofs.SizeLaws.{natAbs-zero}
 use Rattle.algebra.proofs.SignLaws.{zero-if, dec-nz, plus-nought, minus-nought, same-turned}
 use Rattle.algebra.proofs.UnionLaws.{dropped-split}
 use Rattle.matroid.specs.Configurations.{Configuration, volume}
@@ -34,10 +34,6 @@ use Rattle.matroid.proofs.Search.{Least, least}
 use Rattle.matroid.proofs.Determinants.{alternate-zero, alternate-size}
 use Rattle.matroid.proofs.Bases.{weights, weights-at, weights-on, weights-dependency}
 use Rattle.matroid.proofs.CircuitLaws.{circuit-flat, circuit-like}
-
-size-zero : (z : ℤ) → natAbs z ≡ 0 → z ≡ pos 0
-size-zero (pos n) e = ap pos e
-size-zero (negsuc n) e = absurd (omega arith)
 
 -- ---- numbers that sum to 0
 
@@ -84,10 +80,10 @@ module _ (n : ℕ) (P : Configuration) (X : SignVector) (c : Circuit n P X) (S :
   weighed = weights-dependency n P S (λ i m. on-low S 0 n i w (mem-on i S .0 m) .1)
 
   pub circuit-full : (v : ℕ) → v < n → (X v ≡ nought → ⊥) → NZ (volume P (dropped n v S)) → (u : ℕ) → u < n → (X u ≡ nought → ⊥) → NZ (volume P (dropped n u S))
-  circuit-full v vl vz nz u ul uz e = uz (c .smallest (weights P S) weighed (record { at = v; low = vl; so = some }) weights-inside u ul (size-zero (weights P S u) (size-without u (holds u ul uz) ∙ ap natAbs e)))
+  circuit-full v vl vz nz u ul uz e = uz (c .smallest (weights P S) weighed (record { at = v; low = vl; so = some }) weights-inside u ul (natAbs-zero (weights P S u) (size-without u (holds u ul uz) ∙ ap natAbs e)))
     where
       some : NZ (weights P S v)
-      some q = nz (size-zero (volume P (dropped n v S)) (sym (size-without v (holds v vl vz)) ∙ ap natAbs q))
+      some q = nz (natAbs-zero (volume P (dropped n v S)) (sym (size-without v (holds v vl vz)) ∙ ap natAbs q))
 
   abbrev pub sideVolume : (Sign → Bool) → ℕ
   sideVolume t = tally n (λ i. cond (t (X i)) (natAbs (volume P (dropped n i S))) 0)

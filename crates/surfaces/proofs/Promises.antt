@@ -3,7 +3,8 @@
 --   accepted-decided                 the test of a list decides that it is a triangulation of the patch with nothing past the last rank
 --   flip-refuses, placing-refuses    a refusal number exactly when its line is the first that holds
 --   flip-gives, placing-gives        the list exactly when no line holds
---   flip-accepted, placing-accepted  the list given is accepted: a triangulation of the patch, with nothing past the last rank
+--   flipped-accepted                 where an accepted list supports a side of a circuit, its flip is accepted: a triangulation of the patch, with nothing past the last rank
+--   flip-accepted, placing-accepted  so is every list given, and no test is needed
 --   flip-published                   a flip is given exactly where the list is accepted and has a published flip, and it is that flip
 --   not-both-sides                   an accepted list supports the pieces of at most one side
 --   put-in-new-here                  what a flip puts in was not in the list
@@ -195,8 +196,7 @@ module _ (l : List ℤ) where
       flipped-past : (r : ℕ) → tripleCount n ≤ r → member (flippedOf n w (circuitAt l z)) r ≡ false
       flipped-past r m = flipped-either (λ u. member u r ≡ false) n w (circuitAt l z) (λ ps qs. exchanged-past n wordCount w ps qs size r m (none-past w (a .0) r m))
 
-      -- so no test is needed
-      flipped-accepted : (NoFlip l w z → ⊥) → Accepted l (flippedOf n w (circuitAt l z))
+      pub flipped-accepted : (NoFlip l w z → ⊥) → Accepted l (flippedOf n w (circuitAt l z))
       flipped-accepted k = (
         λ (r, _, m, e). false≢true (sym (flipped-past r m) ∙ e),
         flip-triangulates (patch-distinct l ok) (a .1) (circuit-published l ok z h) (some-flipped k),
