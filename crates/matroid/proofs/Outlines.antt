@@ -1,6 +1,6 @@
 -- Triangles over a set of points, their outline, and what holds of both while points are placed one by one.
 --
---   Triples            a set of triples, as a test of three numbers
+--   TripleSet          a set of triples, as a test of three numbers
 --   Has R a b c        a, b and c are a triple of R
 --   Lone R a b c       a and b are an edge of one triple of R alone, and c is its third point: an edge of the outline
 --   Placed n P A R     the triples R over the points A, of the first n: none flat, no two separated, and for each edge of the outline every point of A, used or
@@ -33,16 +33,16 @@ use Rattle.matroid.proofs.Trios.{Among}
 use Rattle.matroid.proofs.Sides.{turnAt, sides}
 use Rattle.matroid.proofs.Corners.{same-side}
 
-abbrev pub Triples : Type 0
-Triples = ℕ → ℕ → ℕ → Bool
+abbrev pub TripleSet : Type 0
+TripleSet = ℕ → ℕ → ℕ → Bool
 
-abbrev pub Has : Triples → ℕ → ℕ → ℕ → Type 0
+abbrev pub Has : TripleSet → ℕ → ℕ → ℕ → Type 0
 Has R a b c = R a b c ≡ true
 
-abbrev pub Lone : Triples → ℕ → ℕ → ℕ → Type 0
+abbrev pub Lone : TripleSet → ℕ → ℕ → ℕ → Type 0
 Lone R a b c = Has R a b c × ((d : ℕ) → Has R a b d → d ≡ c)
 
-pub record Placed (n : ℕ) (P : Points) (A : ℕ → Type 0) (R : Triples) : Type 0 where
+pub record Placed (n : ℕ) (P : Points) (A : ℕ → Type 0) (R : TripleSet) : Type 0 where
   pub low : (a : ℕ) → A a → a < n
   pub some : (a : ℕ) × (b : ℕ) × (c : ℕ) × Has R a b c
   pub swap : (a b c : ℕ) → Has R a b c → Has R b a c
@@ -52,7 +52,7 @@ pub record Placed (n : ℕ) (P : Points) (A : ℕ → Type 0) (R : Triples) : Ty
   pub apart : (a b c d e f : ℕ) → Has R a b c → Has R d e f → Separated n (plane P) (Among a b c) (Among d e f) → ⊥
   pub outer : (a b c x : ℕ) → Lone R a b c → A x → NN (sides P a b c x)
 
-pub placed-same : {n : ℕ} {P : Points} {A B : ℕ → Type 0} {R : Triples} → ((x : ℕ) → A x ↔ B x) → Placed n P A R → Placed n P B R
+pub placed-same : {n : ℕ} {P : Points} {A B : ℕ → Type 0} {R : TripleSet} → ((x : ℕ) → A x ↔ B x) → Placed n P A R → Placed n P B R
 placed-same e g = record {
   low = λ a k. g .low a (e a .1 k);
   some = g .some;
@@ -71,7 +71,7 @@ mark t = cond t 1 0
 abbrev count : ℕ → (ℕ → Bool) → ℕ
 count n f = tally n (λ i. mark (f i))
 
-module _ {n : ℕ} {P : Points} {A : ℕ → Type 0} {R : Triples} (g : Placed n P A R) where
+module _ {n : ℕ} {P : Points} {A : ℕ → Type 0} {R : TripleSet} (g : Placed n P A R) where
   -- ---- one triple
 
   pub last-two : (a b c : ℕ) → Has R a b c → Has R a c b

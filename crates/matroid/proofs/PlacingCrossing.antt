@@ -18,18 +18,18 @@ use Rattle.matroid.specs.Dependencies.{Separated}
 use Rattle.matroid.proofs.Dependent.{separated-turned}
 use Rattle.matroid.proofs.Trios.{Among, among-cycle}
 use Rattle.matroid.proofs.Sides.{sides, sides-swap, sides-first, sides-second, sides-balance}
-use Rattle.matroid.proofs.Outlines.{Triples, Has, Lone, Placed, used-among, lone-swap}
+use Rattle.matroid.proofs.Outlines.{TripleSet, Has, Lone, Placed, used-among, lone-swap}
 
-abbrev pub Sees : Points → Triples → ℕ → ℕ → ℕ → Type 0
+abbrev pub Sees : Points → TripleSet → ℕ → ℕ → ℕ → Type 0
 Sees P R m a b = (v : ℕ) × Lone R a b v × Neg (sides P a b v m)
 
-abbrev pub SeenTriple : Points → Triples → ℕ → ℕ → ℕ → ℕ → Type 0
+abbrev pub SeenTriple : Points → TripleSet → ℕ → ℕ → ℕ → ℕ → Type 0
 SeenTriple P R m a b c = ((a ≡ m) × Sees P R m b c) ⊎ ((b ≡ m) × Sees P R m c a) ⊎ ((c ≡ m) × Sees P R m a b)
 
-abbrev pub After : Points → Triples → ℕ → ℕ → ℕ → ℕ → Type 0
+abbrev pub After : Points → TripleSet → ℕ → ℕ → ℕ → ℕ → Type 0
 After P R m a b c = Has R a b c ⊎ SeenTriple P R m a b c
 
-module _ {n : ℕ} {P : Points} {A : ℕ → Type 0} {R : Triples} (g : Placed n P A R) (m : ℕ) where
+module _ {n : ℕ} {P : Points} {A : ℕ → Type 0} {R : TripleSet} (g : Placed n P A R) (m : ℕ) where
   pub sees-turned : (a b : ℕ) → Sees P R m a b → Sees P R m b a
   sees-turned a b (v, h, s) = (v, lone-swap g a b v h, pos-cast (ap negℤ (sides-swap P a b v m)) s)
 

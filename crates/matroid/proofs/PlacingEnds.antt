@@ -34,14 +34,14 @@ use Rattle.matroid.proofs.Edges.{pair-face, each-face}
 use Rattle.matroid.proofs.Trios.{Among, trio, on-triple, on-trio, among-swap, among-cycle, SameThree, same-swap, same-cycle, trio-three, any-order}
 use Rattle.matroid.proofs.Sides.{turnAt, sides, sides-first, sides-second}
 use Rattle.matroid.proofs.Borders.{border-sides}
-use Rattle.matroid.proofs.Outlines.{Triples, Has, Lone, Placed, last-two, used-third, first-third, second-third}
+use Rattle.matroid.proofs.Outlines.{TripleSet, Has, Lone, Placed, last-two, used-third, first-third, second-third}
 
 -- ---- the first triangle
 
-abbrev pub OfThree : ℕ → ℕ → ℕ → Triples → Type 0
+abbrev pub OfThree : ℕ → ℕ → ℕ → TripleSet → Type 0
 OfThree a b c R = (x y z : ℕ) → Has R x y z ↔ SameThree a b c x y z
 
-module _ (n : ℕ) (P : Points) (a b c : ℕ) (an : a < n) (bn : b < n) (cn : c < n) (off : NZ (turnAt P a b c)) {R : Triples} (o : OfThree a b c R) where
+module _ (n : ℕ) (P : Points) (a b c : ℕ) (an : a < n) (bn : b < n) (cn : c < n) (off : NZ (turnAt P a b c)) {R : TripleSet} (o : OfThree a b c R) where
   full-first : (x y z : ℕ) → SameThree a b c x y z → NZ (turnAt P x y z)
   full-first x y z h = any-order (λ i j k. NZ (turnAt P i j k))
       (λ i j k q e. q (neg-zero (turnAt P i j k) (sym (turn-swap-first (P i) (P j) (P k)) ∙ e))) (λ i j k q e. q (turn-cycle (P i) (P j) (P k) ∙ e))
@@ -81,10 +81,10 @@ module _ (n : ℕ) (P : Points) (a b c : ℕ) (an : a < n) (bn : b < n) (cn : c 
 
 -- ---- the end
 
-abbrev pub Shows : ℕ → Triples → Family → Type 0
+abbrev pub Shows : ℕ → TripleSet → Family → Type 0
 Shows n R T = ((s : List ℕ) → T s → Within 0 s n × (length s ≡ 3)) × ((a b c : ℕ) → Has R a b c ↔ T (trio n a b c))
 
-module _ {n : ℕ} {P : Points} {R : Triples} {T : Family} (g : Placed n P (λ x. x < n) R) (shows : Shows n R T) where
+module _ {n : ℕ} {P : Points} {R : TripleSet} {T : Family} (g : Placed n P (λ x. x < n) R) (shows : Shows n R T) where
   -- a member is a triple of R
   three : (s : List ℕ) → T s → (a : ℕ) × (b : ℕ) × (c : ℕ) × (s ≡ a ∷ b ∷ c ∷ []) × Has R a b c × (a < b) × (b < c)
   three s k =

@@ -14,13 +14,13 @@ use Rattle.matroid.specs.Points.{Points}
 use Rattle.matroid.proofs.Turns.{turn-cycle}
 use Rattle.matroid.proofs.Sides.{turnAt, sides, sides-swap, sides-first}
 use Rattle.matroid.proofs.Corners.{outline-corner}
-use Rattle.matroid.proofs.Outlines.{Triples, Has, Lone, Placed, used-second, used-third, second-edge}
+use Rattle.matroid.proofs.Outlines.{TripleSet, Has, Lone, Placed, used-second, used-third, second-edge}
 use Rattle.matroid.proofs.PlacingCrossing.{Sees, SeenTriple, After, sees-turned, seen-swap, seen-cycle, after-apart}
 
-abbrev pub Grown : Points → Triples → ℕ → Triples → Type 0
+abbrev pub Grown : Points → TripleSet → ℕ → TripleSet → Type 0
 Grown P R m R′ = (a b c : ℕ) → Has R′ a b c ↔ After P R m a b c
 
-module _ {n : ℕ} {P : Points} {A : ℕ → Type 0} {R : Triples} (g : Placed n P A R) (m : ℕ) (mn : m < n) (fresh : A m → ⊥) where
+module _ {n : ℕ} {P : Points} {A : ℕ → Type 0} {R : TripleSet} (g : Placed n P A R) (m : ℕ) (mn : m < n) (fresh : A m → ⊥) where
   unseen : (a b v : ℕ) → Lone R a b v → (Sees P R m a b → ⊥) → NN (sides P a b v m)
   unseen a b v h f = nn-cast (negℤ-negℤ (sides P a b v m)) (np-of (negℤ (sides P a b v m)) (λ s. f (v, h, s)))
 
@@ -32,7 +32,7 @@ module _ {n : ℕ} {P : Points} {A : ℕ → Type 0} {R : Triples} (g : Placed n
       (g .outer a b v b′ h (used-second g a b′ v′ (h′ .0))) (g .outer a b v v′ h (used-third g a b′ v′ (h′ .0))) (g .outer a b v x h ax)
       (g .full a b′ v′ (h′ .0)) (unseen a b′ v′ h′ (λ k. ne (only b′ k))) (g .outer a b′ v′ b h′ (used-second g a b v (h .0))) (g .outer a b′ v′ x h′ ax)
 
-  module _ {R′ : Triples} (grown : Grown P R m R′) where
+  module _ {R′ : TripleSet} (grown : Grown P R m R′) where
     -- ---- a triple of R, or of m and an edge that it sees
 
     kept : (a b c : ℕ) → Has R a b c → Has R′ a b c

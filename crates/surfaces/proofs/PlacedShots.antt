@@ -20,7 +20,7 @@ use Rattle.algebra.proofs.SignLaws.{tri, pos-mul, pos-neg-mul, neg-pos-mul, neg
 use Rattle.matroid.specs.Points.{Points}
 use Rattle.matroid.proofs.Trios.{trio, among-swap, among-cycle, trio-same, trio-holds, SameThree, any-order}
 use Rattle.matroid.proofs.Sides.{turnAt, sides}
-use Rattle.matroid.proofs.Outlines.{Triples, Has, Placed, used-second, used-third, first-second}
+use Rattle.matroid.proofs.Outlines.{TripleSet, Has, Placed, used-second, used-third, first-second}
 use Rattle.matroid.proofs.PlacingCrossing.{Sees, SeenTriple, After, sees-turned, seen-swap, seen-cycle}
 use Rattle.matroid.proofs.PlacingStep.{Grown}
 use Rattle.shots.specs.Coordinates.{pointOf, areaOf}
@@ -69,14 +69,14 @@ module _ (l : List ℤ) (ok : refusalOf l ≡ 0) (w : List ℕ) (v : Words wordC
   abbrev P : Points
   P = pointOf l
 
-  abbrev R : Triples
+  abbrev R : TripleSet
   R = thirdIn n w
 
   -- the list when m is placed
   abbrev w′ : List ℕ
   w′ = placeShot l w m
 
-  abbrev R′ : Triples
+  abbrev R′ : TripleSet
   R′ = thirdIn n w′
 
   module _ {A : ℕ → Type 0} (g : Placed n P A R) where

@@ -52,7 +52,7 @@ pub fn impossible(capacity: usize, walk: Walk, count: usize) -> bool
     rows * count < walk.step
 }
 
-// A list that was found and is accepted: a known one is passed over, a new one is written at the next row.
+// A list that a flip found: a known one is passed over, a new one is written at the next row.
 pub fn place(table: &mut [u64], index: &mut [u16], walk: Walk, list: Triples) -> AfterStep
     requires { ⌜ (walk .rows ≤ capacityOf wordCount (length (now table))) × (walk .step < rowsMost * circuitsMost) × Indexed (now table) (walk .rows) (now index) ⌝ }
     ensures { λ r. ⌜ (afterStep (now (table .exit)) r ≡ storeOf wordCount (now (table .entry)) (readWalk walk) (wordsOf list)) × Indexed (now (table .exit)) (r .walk .rows) (now (index .exit)) ⌝ }
