@@ -146,6 +146,9 @@ module _ (l : List ℤ) where
   abbrev n : ℕ
   n = countOf l
 
+  flipped-words : (w : List ℕ) (z : ℕ) → length w ≡ wordCount → Words wordCount (flippedOf n w (circuitAt l z))
+  flipped-words w z size = flipped-either (Words wordCount) n w (circuitAt l z) (λ ps qs. exchanged-words n wordCount w ps qs size)
+
   none-past : (w : List ℕ) → (PastLast l w → ⊥) → (r : ℕ) → tripleCount n ≤ r → member w r ≡ false
   none-past w k r h = go (decLt r (wordBits * length w)) (member w r) refl
     where
@@ -204,7 +207,7 @@ module _ (l : List ℤ) where
 
       flipped-is : (s : Sign) → Side s → (w′ : List ℕ) → Words wordCount w′ → (PastLast l w′ → ⊥) → Flip n (Listed n w) (signsOf l z) s (Listed n w′) → flippedOf n w (circuitAt l z) ≡ w′
       flipped-is s d w′ v′ k f =
-          one-flip n wordCount (flippedOf n w (circuitAt l z)) w′ (flipped-either (Words wordCount) n w (circuitAt l z) (λ ps qs. exchanged-words n wordCount w ps qs size)) v′
+          one-flip n wordCount (flippedOf n w (circuitAt l z)) w′ (flipped-words w z size) v′
           flipped-past (none-past w′ k) (side-flipped s d (f .supported)) f
 
   module _ (w w′ : List ℕ) (z : ℕ) where
@@ -218,7 +221,7 @@ module _ (l : List ℤ) where
         subst (Accepted l) f (flipped-accepted (shots-kept l c₁) w (accepted-iff-triangulation l w .0 c₂) z (below x) size y)
 
     pub flip-words : length w ≡ wordCount → flipOf l w z ≡ gives w′ → Words wordCount w′
-    flip-words size e = subst (Words wordCount) (flip-gives l w z w′ .0 e .1) (flipped-either (Words wordCount) n w (circuitAt l z) (λ ps qs. exchanged-words n wordCount w ps qs size))
+    flip-words size e = subst (Words wordCount) (flip-gives l w z w′ .0 e .1) (flipped-words w z size)
 
     -- an accepted list, a circuit of the patch, and the list of the published flip
     abbrev Leads : Type 0
