@@ -13,5 +13,6 @@ pub mod BitLaws
 pub mod BitOps
 pub mod SetTests
 pub mod UnionLaws
+pub mod TrioLaws
 pub mod WordLaws
 pub mod WritingLaws

@@ -14,11 +14,11 @@ use Rattle.algebra.proofs.AnswerLaws.{reflects-yes}
 use Rattle.algebra.proofs.IntLaws.{*ℤ-neg-l}
 use Rattle.algebra.proofs.Ring.{Ex, _⊕_, _⊝_, _⊗_, neg, ring}
 use Rattle.algebra.proofs.SignLaws.{tri, zero-mul, both-zero, pos-cast, pos-neg-mul, pos-of-mul, neg-of-mul, zero-of-mul, square-pos, square-mul, factor-l, signOf-pos, signOf-neg, signOf-zero, pos-signOf, neg-signOf}
+use Rattle.algebra.proofs.TrioLaws.{Among, on-triple, trio-three, any-order}
 use Rattle.matroid.specs.Configurations.{chirotope, Simplex}
 use Rattle.matroid.specs.Points.{Points, plane, dot}
 use Rattle.matroid.specs.Triangulations.{Border}
 use Rattle.matroid.proofs.Turns.{coordinates, D, O, chirotope-turn, turn-cycle, turn-swap-first, dot-zero}
-use Rattle.matroid.proofs.Trios.{Among, on-triple, trio-three, any-order}
 use Rattle.matroid.proofs.Sides.{turnAt, sides}
 
 -- ---- border pairs

@@ -12,10 +12,10 @@ use Rattle.algebra.specs.Sign.{Pos, NN, Neg, NZ}
 use Rattle.algebra.proofs.IntLaws.{*ℤ-neg-r}
 use Rattle.algebra.proofs.Ring.{var, _⊕_, _⊝_, _⊗_, neg, ring}
 use Rattle.algebra.proofs.SignLaws.{pos-cast, nn-cast, nn-mul, nn-add, pos-nn, pos-zero, neg-nn, nn-of-mul, zero-of-mul, mul-zero, zero-mul, nn-shared, square-nn, square-pos, square-mul, factor-l}
+use Rattle.algebra.proofs.TrioLaws.{Among}
 use Rattle.matroid.specs.Points.{Point, Points, plane, turn, dot}
 use Rattle.matroid.specs.Dependencies.{Separated}
 use Rattle.matroid.proofs.Turns.{coordinates, D, O, turn-swap, turn-first, dot-zero}
-use Rattle.matroid.proofs.Trios.{Among}
 use Rattle.matroid.proofs.Sides.{turnAt, sides, sides-first, sides-second, across, across-dependency, across-each, across-first, across-second}
 
 module _ (P : Points) where

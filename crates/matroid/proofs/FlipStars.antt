@@ -17,13 +17,13 @@ use Rattle.algebra.specs.Sign.{Side, Sign, nought}
 use Rattle.algebra.proofs.AnswerLaws.{reflects-true, reflects-dec, is-nought}
 use Rattle.algebra.proofs.UnionLaws.{on-one}
 use Rattle.algebra.proofs.SetTests.{dec-on, on-low, on-none, subset-same}
+use Rattle.algebra.proofs.TrioLaws.{Among, on-triple}
 use Rattle.matroid.specs.Configurations.{Configuration, Simplex}
 use Rattle.matroid.specs.Points.{Points, plane, Distinct}
 use Rattle.matroid.specs.Circuits.{SignVector, Circuit}
 use Rattle.matroid.specs.Triangulations.{Family, Triangulation}
 use Rattle.matroid.specs.Flips.{Supports, Star}
 use Rattle.matroid.proofs.Search.{dec-both, dec-not, Least, least}
-use Rattle.matroid.proofs.Trios.{Among, on-triple}
 use Rattle.matroid.proofs.Borders.{simplex-three}
 use Rattle.matroid.proofs.FlipLaws.{Linked, Holds, some-side, no-whole}
 use Rattle.matroid.proofs.FlipSets.{joined, on-joined, Complete, star-in, joined-old}

@@ -18,7 +18,6 @@ pub mod Turns
 pub mod Lines
 pub mod Edges
 pub mod Planar
-pub mod Trios
 pub mod Sides
 pub mod Borders
 pub mod Apexes

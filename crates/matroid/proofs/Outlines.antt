@@ -26,10 +26,10 @@ use Rattle.algebra.proofs.AnswerLaws.{reflects-false, reflects-stable, reflects
 use Rattle.algebra.proofs.LoopLaws.{reflects-any, reflects-test}
 use Rattle.algebra.proofs.ParityLaws.{all-even, one-odd, two-odd, another-odd, pairs-even}
 use Rattle.algebra.proofs.SignLaws.{tri, zero-of-mul, two-alike}
+use Rattle.algebra.proofs.TrioLaws.{Among}
 use Rattle.matroid.specs.Points.{Points, plane}
 use Rattle.matroid.specs.Dependencies.{Separated}
 use Rattle.matroid.proofs.Turns.{turn-first}
-use Rattle.matroid.proofs.Trios.{Among}
 use Rattle.matroid.proofs.Sides.{turnAt, sides}
 use Rattle.matroid.proofs.Corners.{same-side}
 

@@ -13,10 +13,10 @@ use lib.IntN.{ℤ, pos, negℤ, _*ℤ_, negℤ-negℤ}
 use Rattle.algebra.specs.Sign.{Pos, NN, Neg, Tri, below, at-nought, above}
 use Rattle.algebra.proofs.SignLaws.{tri, pos-cast, nn-cast, neg-mul, nn-mul, nn-zero, pos-nn, pos-zero, neg-nn, mul-zero, zero-mul}
 use Rattle.algebra.proofs.SumLaws.{nn-sum-zero}
+use Rattle.algebra.proofs.TrioLaws.{Among, among-cycle}
 use Rattle.matroid.specs.Points.{Points, plane}
 use Rattle.matroid.specs.Dependencies.{Separated}
 use Rattle.matroid.proofs.Dependent.{separated-turned}
-use Rattle.matroid.proofs.Trios.{Among, among-cycle}
 use Rattle.matroid.proofs.Sides.{sides, sides-swap, sides-first, sides-second, sides-balance}
 use Rattle.matroid.proofs.Outlines.{TripleSet, Has, Lone, Placed, used-among, lone-swap}
 

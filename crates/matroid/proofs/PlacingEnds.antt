@@ -19,6 +19,7 @@ use Rattle.algebra.specs.Sets.{On, Within}
 use Rattle.algebra.specs.Sign.{NN, NZ, Tri, below, at-nought, above}
 use Rattle.algebra.proofs.AnswerLaws.{reflects-yes, reflects-true}
 use Rattle.algebra.proofs.SignLaws.{tri, nn-zero, neg-nn, nn-shared, square-nn, neg-zero, zero-signOf}
+use Rattle.algebra.proofs.TrioLaws.{Among, trio, on-triple, on-trio, among-swap, among-cycle, SameThree, same-swap, same-cycle, trio-three, any-order}
 use Rattle.matroid.specs.Configurations.{chirotope, Flat, Simplex, Spans}
 use Rattle.matroid.specs.Points.{Points, plane}
 use Rattle.matroid.specs.Dependencies.{Separated}
@@ -31,7 +32,6 @@ use Rattle.matroid.proofs.Planar.{three-nowhere}
 use Rattle.matroid.proofs.Crossing.{crossing-iff-separated}
 use Rattle.matroid.proofs.TriangulationLaws.{Shut}
 use Rattle.matroid.proofs.Edges.{pair-face, each-face}
-use Rattle.matroid.proofs.Trios.{Among, trio, on-triple, on-trio, among-swap, among-cycle, SameThree, same-swap, same-cycle, trio-three, any-order}
 use Rattle.matroid.proofs.Sides.{turnAt, sides, sides-first, sides-second}
 use Rattle.matroid.proofs.Borders.{border-sides}
 use Rattle.matroid.proofs.Outlines.{TripleSet, Has, Lone, Placed, last-two, used-third, first-third, second-third}

@@ -37,9 +37,9 @@ use Rattle.algebra.proofs.LoopLaws.{and-parts, any-some, any-no, reflects-any, 
 use Rattle.algebra.proofs.SetTests.{reflects-on, union-within, on-low, subset-length, subset-same}
 use Rattle.algebra.proofs.UnionLaws.{on-one, on-pair, union-apart, union-meets, third-last}
 use Rattle.algebra.proofs.WordLaws.{words-same, sift-words, put-words, member-put, both-words, either-words, both-member, member-either, meets-reflects, alone-reflects}
+use Rattle.algebra.proofs.TrioLaws.{Among, trio, on-trio, trio-holds}
 use Rattle.matroid.specs.Points.{Collinear, turn}
 use Rattle.matroid.proofs.Lines.{line-through}
-use Rattle.matroid.proofs.Trios.{Among, trio, on-trio, trio-holds}
 use Rattle.shots.specs.Sizes.{shotsMost}
 use Rattle.shots.specs.Coordinates.{pointOf, areaOf}
 use Rattle.shots.specs.Patch.{countOf, orientOf}
@@ -76,7 +76,7 @@ module _ (n i j m : ℕ) (ij : i < j) (jn : j < n) (mn : m < n) (mi : m ≡ i �
   pub corner-ranked : (rankOf n (trio n i j m) < tripleCount n) × (tripleAt n (rankOf n (trio n i j m)) ≡ trio n i j m)
   corner-ranked = triple-of-rank n (trio n i j m) (union-within n (i ∷ j ∷ []) (m ∷ [])) (corner-size n i j m ij jn mn mi mj)
 
-  pub corner-rank : (r : ℕ) → (isOn i (tripleAt n r) && isOn j (tripleAt n r) && isOn m (tripleAt n r)) ≡ eqb r (rankOf n (trio n i j m))
+  corner-rank : (r : ℕ) → (isOn i (tripleAt n r) && isOn j (tripleAt n r) && isOn m (tripleAt n r)) ≡ eqb r (rankOf n (trio n i j m))
   corner-rank r =
       reflects-agree
       (reflects-iff (into, out) (reflects-and (reflects-and (reflects-on i (tripleAt n r)) (reflects-on j (tripleAt n r))) (reflects-on m (tripleAt n r))))
@@ -128,7 +128,7 @@ module _ (n i j m : ℕ) (few : n ≤ shotsMost) (ij : i < j) (jn : j < n) (mn :
   member-corner r h =
       both-member wordCount (edgeSet n i j) (holdersOf n m) (edge-words n i j) r ∙ (λ t. member-edge n i j r h t && member-holders n m r h t) ∙ corner-rank n i j m ij jn mn mi mj r
 
-  pub corner-put : (u : List ℕ) → Words wordCount u → eitherOf u (bothOf (bothOf (holdersOf n i) (holdersOf n j)) (holdersOf n m)) ≡ putIn u (rankOf n (trio n i j m))
+  corner-put : (u : List ℕ) → Words wordCount u → eitherOf u (bothOf (bothOf (holdersOf n i) (holdersOf n j)) (holdersOf n m)) ≡ putIn u (rankOf n (trio n i j m))
   corner-put u v =
       words-same wordCount (eitherOf u (cornerSet n i j m)) (putIn u (rankOf n (trio n i j m)))
       (either-words wordCount u (cornerSet n i j m) v) (put-words wordCount u (rankOf n (trio n i j m)) v)

@@ -20,8 +20,8 @@ use Rattle.algebra.specs.Words.{Words}
 use Rattle.algebra.proofs.AnswerLaws.{reflects-or, reflects-eqb}
 use Rattle.algebra.proofs.LoopLaws.{last, first-passes}
 use Rattle.algebra.proofs.SignLaws.{signOf-zero}
+use Rattle.algebra.proofs.TrioLaws.{Among, trio, trio-same, trio-holds, SameThree, same-swap, same-cycle, any-order}
 use Rattle.matroid.specs.Points.{Points}
-use Rattle.matroid.proofs.Trios.{Among, trio, trio-same, trio-holds, SameThree, same-swap, same-cycle, any-order}
 use Rattle.matroid.proofs.Sides.{turnAt}
 use Rattle.matroid.proofs.Outlines.{Placed, placed-same}
 use Rattle.matroid.proofs.PlacingStep.{placed-on}

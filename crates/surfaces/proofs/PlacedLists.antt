@@ -21,7 +21,7 @@ use Rattle.algebra.proofs.AnswerLaws.{reflects-yes, reflects-true, reflects-or,
 use Rattle.algebra.proofs.LoopLaws.{last, reflects-test}
 use Rattle.algebra.proofs.UnionLaws.{third-last}
 use Rattle.algebra.proofs.WordLaws.{member-put}
-use Rattle.matroid.proofs.Trios.{trio}
+use Rattle.algebra.proofs.TrioLaws.{trio}
 use Rattle.shots.specs.Patch.{countOf}
 use Rattle.shots.specs.Tests.{refusalOf}
 use Rattle.shots.proofs.Patch.{patch-few}

@@ -17,8 +17,8 @@ use Rattle.algebra.specs.Sign.{signOf, opposite, Neg, Tri, below, at-nought, ab
 use Rattle.algebra.specs.Words.{Words}
 use Rattle.algebra.proofs.AnswerLaws.{reflects-yes, reflects-true, reflects-iff}
 use Rattle.algebra.proofs.SignLaws.{tri, pos-mul, pos-neg-mul, neg-pos-mul, neg-mul, pos-nn, neg-nn, factor-l, factor-r, signOf-pos, signOf-neg, signOf-zero}
+use Rattle.algebra.proofs.TrioLaws.{trio, among-swap, among-cycle, trio-same, trio-holds, SameThree, any-order}
 use Rattle.matroid.specs.Points.{Points}
-use Rattle.matroid.proofs.Trios.{trio, among-swap, among-cycle, trio-same, trio-holds, SameThree, any-order}
 use Rattle.matroid.proofs.Sides.{turnAt, sides}
 use Rattle.matroid.proofs.Outlines.{TripleSet, Has, Placed, used-second, used-third, first-second}
 use Rattle.matroid.proofs.PlacingCrossing.{Sees, SeenTriple, After, sees-turned, seen-swap, seen-cycle}
