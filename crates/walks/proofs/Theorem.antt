@@ -78,6 +78,10 @@ module _ (l : List ℤ) where
 -- ---- what a walk has written
 
 module _ (l : List ℤ) (w₀ : List ℕ) (v₀ : Words wordCount w₀) where
+  -- the list that it began with was accepted
+  first-row : {t : List ℕ} {r : WalkRecord} → Walked (plane l) w₀ t r → Clear (shotLines l) × Accepted l w₀
+  first-row h = let (c, p, g) = test-accepts l w₀ .0 (walk-tested h) in (c, (p, g))
+
   pub walk-surfaces : (t : List ℕ) (r : WalkRecord) → Walked (plane l) w₀ t r → Surfaces l w₀ t r
   walk-surfaces t r h = record {
     first = listing .first;
@@ -96,7 +100,7 @@ module _ (l : List ℤ) (w₀ : List ℕ) (v₀ : Words wordCount w₀) where
       listing = walk-listing (plane-sound l) w₀ (v₀ .0) h
 
       first : Clear (shotLines l) × Accepted l w₀
-      first = let (c, p, g) = test-accepts l w₀ .0 (walk-tested h) in (c, (p, g))
+      first = first-row h
 
       kept : (p : ℕ) → p < r .rows → Accepted l (rowOf wordCount t p) × Words wordCount (rowOf wordCount t p) × (areaSumOf l (rowOf wordCount t p) ≡ areaSumOf l w₀)
       kept = row-kept (plane-sound l) w₀ (v₀ .0) h (λ w. Accepted l w × Words wordCount w × (areaSumOf l w ≡ areaSumOf l w₀))
@@ -104,9 +108,9 @@ module _ (l : List ℤ) (w₀ : List ℕ) (v₀ : Words wordCount w₀) where
 
   pub walk-whole : (t : List ℕ) (r : WalkRecord) → Walked (plane l) w₀ t r → r .step ≡ r .rows * length (circuitsOf l) → (w : List ℕ) → Stands wordCount t (r .rows) w ↔ BareReach l w₀ w
   walk-whole t r h e w =
-      let (c, p, g) = test-accepts l w₀ .0 (walk-tested h) in
+      let (c, a) = first-row h in
       let s = walk-surfaces t r h .whole e w in
-      let q = reach-bare l w₀ c (p, g) v₀ w in
+      let q = reach-bare l w₀ c a v₀ w in
       (λ x. q .0 (s .0 x), λ x. s .1 (q .1 x))
 
   pub walk-length : (t : List ℕ) (r : WalkRecord) → startOf (plane l) t r w₀ .answer ≡ gives started
