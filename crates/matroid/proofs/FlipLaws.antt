@@ -11,7 +11,9 @@
 --   put-in-new          what a flip puts in was not there
 --   taken-out-old       what it takes out was there; `star-holds`: it holds the other side
 --   link-off            a member of the link of a piece has no point of the circuit
---   flip-back           the flip of the other side leads back
+--   flip-back           the flip of the other side leads back, where both are triangulations and it is decided what is taken out
+--   flip-pieces         a flip is known by the pieces of the two sides
+--   flipped-alike, flipped-against    a flip depends on the circuit's signs alone, and not on which side is called plus
 --
 -- The definitions: specs/Flips. That a flip of a triangulation of the plane is a triangulation, as `flip-back` asks: proofs/FlipTriangulates. Source 001, section 3.4.
 use mathlib.Core.Path.{_≡_, refl, sym, _∙_, ap, subst}
@@ -26,11 +28,11 @@ use Rattle.algebra.proofs.AnswerLaws.{reflects-yes, reflects-true}
 use Rattle.algebra.proofs.SumLaws.{nn-sum-zero}
 use Rattle.algebra.proofs.UnionLaws.{set-known, on-one, on-either, on-without}
 use Rattle.algebra.proofs.SetTests.{on-low, union-within, dropped-within}
-use Rattle.algebra.proofs.SignLaws.{other-side, nought-side, sides-differ, np-of, neg-zero, dec-pos, signOf-pos, opposite-opposite, plus-nought, minus-nought}
+use Rattle.algebra.proofs.SignLaws.{other-side, nought-side, sides-differ, np-of, neg-zero, dec-pos, signOf-pos, opposite-opposite, nought-opposite, plus-nought, minus-nought}
 use Rattle.matroid.specs.Configurations.{Configuration}
-use Rattle.matroid.specs.Circuits.{SignVector, Circuit}
+use Rattle.matroid.specs.Circuits.{SignVector, Circuit, Alike, against}
 use Rattle.matroid.specs.Triangulations.{Family, Triangulation}
-use Rattle.matroid.specs.Flips.{Piece, Joins, Link, Supports, Star, Flip}
+use Rattle.matroid.specs.Flips.{Piece, Joins, Link, Supports, Star, Flip, Flipped}
 use Rattle.matroid.proofs.Search.{Least, least}
 use Rattle.matroid.proofs.Dependent.{somewhere-nowhere, dep-neg}
 use Rattle.matroid.proofs.CircuitLaws.{support, support-within, on-support, circuit-against}
@@ -206,3 +208,63 @@ module _ {n : ℕ} {P : Configuration} {T T′ : Family} {X : SignVector} {s : S
 pub flip-back : {n : ℕ} {P : Configuration} {T T′ : Family} {X : SignVector} {s : Sign} → Triangulation n P T → Triangulation n P T′ → Circuit n P X → Side s
     → ((t : List ℕ) → Dec (Star n T X s s t)) → Flip n T X s T′ → Flip n T′ X (opposite s) T
 flip-back g g′ z d dec f = back g g′ z d f dec
+
+-- ---- the signs alone
+
+star-pieces : {n : ℕ} {T : Family} {X Y : SignVector} {s s′ q q′ : Sign} → ((p : List ℕ) → Piece n X s p → Piece n Y s′ p) → ((p : List ℕ) → Piece n X q p → Piece n Y q′ p)
+    → (t : List ℕ) → Star n T X s q t → Star n T Y s′ q′ t
+star-pieces f g t (w, (p, c, b, x, h, y, j)) = (w, (p, c, b, f p x, h, g b y, j))
+
+module _ {n : ℕ} {T T′ : Family} {X Y : SignVector} {s q : Sign} (same : (p : List ℕ) → Piece n X s p ↔ Piece n Y q p) (other : (p : List ℕ) → Piece n X (opposite s) p ↔ Piece n Y (opposite q) p) where
+  pub flip-pieces : Flip n T X s T′ → Flip n T Y q T′
+  flip-pieces f = record {
+    supported = record {
+      some = let (p, c, a, h) = f .supported .some in (p, c, same p .0 a, h);
+      same = λ p p′ c a b. f .supported .same p p′ c (same p .1 a) (same p′ .1 b);
+    };
+    exchanged = λ t. (
+      λ h. ⊎-elim (λ (k, out). inl (k, λ x. out (star-pieces to-x to-x t x))) (λ x. inr (star-pieces to-y (λ p. other p .0) t x)) (f .exchanged t .0 h),
+      λ h. f .exchanged t .1 (⊎-elim (λ (k, out). inl (k, λ x. out (star-pieces to-y to-y t x))) (λ x. inr (star-pieces to-x (λ p. other p .1) t x)) h),
+    );
+  }
+    where
+      to-y : (p : List ℕ) → Piece n X s p → Piece n Y q p
+      to-y p = same p .0
+
+      to-x : (p : List ℕ) → Piece n Y q p → Piece n X s p
+      to-x p = same p .1
+
+module _ {n : ℕ} where
+  piece-alike : {X Y : SignVector} → Alike n X Y → (s : Sign) (p : List ℕ) → Piece n X s p → Piece n Y s p
+  piece-alike e s p (a, l, at, w, on) = (a, l, sym (e a l) ∙ at, w, λ i m. (λ h. let (f, g) = on i m .0 h in (λ z. f (e i m ∙ z), g), λ (f, g). on i m .1 (λ z. f (sym (e i m) ∙ z), g)))
+
+  piece-against : (X : SignVector) (s : Sign) (p : List ℕ) → Piece n X s p → Piece n (against X) (opposite s) p
+  piece-against X s p (a, l, at, w, on) = (
+    a,
+    l,
+    ap opposite at,
+    w,
+    λ i m. (λ h. let (f, g) = on i m .0 h in (λ z. f (sym (opposite-opposite (X i)) ∙ nought-opposite (opposite (X i)) z), g), λ (f, g). on i m .1 (λ z. f (nought-opposite (X i) z), g)),
+  )
+
+  against-twice : (X : SignVector) → Alike n (against (against X)) X
+  against-twice X i l = opposite-opposite (X i)
+
+  pieces-alike : {X Y : SignVector} → Alike n X Y → (s : Sign) (p : List ℕ) → Piece n X s p ↔ Piece n Y s p
+  pieces-alike e s p = (piece-alike e s p, piece-alike (λ i l. sym (e i l)) s p)
+
+  pieces-against : (X : SignVector) (s : Sign) (p : List ℕ) → Piece n X s p ↔ Piece n (against X) (opposite s) p
+  pieces-against X s p = (
+    piece-against X s p,
+    λ h. piece-alike (against-twice X) s p (subst (λ q. Piece n (against (against X)) q p) (opposite-opposite s) (piece-against (against X) (opposite s) p h)),
+  )
+
+  module _ {T T′ : Family} where
+    pub flipped-alike : {X Y : SignVector} → Alike n X Y → Flipped n T X T′ → Flipped n T Y T′
+    flipped-alike e (inl f) = inl (flip-pieces (pieces-alike e plus) (pieces-alike e (opposite plus)) f)
+    flipped-alike e (inr f) = inr (flip-pieces (pieces-alike e minus) (pieces-alike e (opposite minus)) f)
+
+    pub flipped-against : {X : SignVector} → Flipped n T X T′ → Flipped n T (against X) T′
+    unfolding opposite
+    flipped-against {X} (inl f) = inr (flip-pieces (pieces-against X plus) (pieces-against X minus) f)
+    flipped-against {X} (inr f) = inl (flip-pieces (pieces-against X minus) (pieces-against X plus) f)
