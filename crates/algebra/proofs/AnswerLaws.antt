@@ -7,7 +7,9 @@
 --   one-answer      two answers with one reading are one answer
 --   chain-broken, chain-kept, chain-stop, chain-after    what a sequence of tests in the code says of its chain
 --   chain-stops, chain-goes                 what a first part, known by its answer, says of a longer chain
+--   chain-ends      a chain ends in its value, or in a number that is not 0
 --   refusal-keeps   where the number of the first broken rule is 0, the rules are kept
+--   numbered-append rules joined have numbers that are not 0
 --   Unbroken rs     no rule of rs is broken
 --   unbroken-gives, gives-unbroken          so it is exactly where a chain gives its value
 --   unbroken-refusal, refusal-unbroken      and where that number is 0
@@ -16,7 +18,12 @@
 --   clear-refusal   the number of the first broken rule is 0 exactly when no line holds
 --   first-clear, first-one    a table with a first line that holds is not clear, and its number is one
 --   decides-append, first-append, clear-append    tables joined
---   reflects-*      tests that decide what is made of statements
+--   reflects-yes, reflects-no, reflects-true, reflects-false    what a test that decides a statement says of it, and it of the test
+--   reflects-by, reflects-stable, reflects-dec      a test by its two cases; a decided statement that is not false holds; it holds or not
+--   reflects-agree  two tests of one statement agree
+--   reflects-iff, reflects-not, reflects-or, reflects-and       tests that decide what is made of statements
+--   reflects-ltb, reflects-leb, reflects-eqb, reflects-eqZ      the tests of numbers
+--   reflects-minus, reflects-nought                 the tests of the sign of a number
 --   is-minus, is-nought, is-plus    the tests of a sign
 use mathlib.Core.Path.{_≡_, refl, sym, _∙_, ap}
 use mathlib.Core.Logic.{_⊎_, inl, inr, _↔_}
@@ -134,6 +141,20 @@ module _ {A : Type 0} where
       go : (b : Bool) → r .broken ≡ b → (chain rs u ≡ refuses n → refuses n ≡ chain (rs ++ ss) v) → refuses n ≡ cond b (refuses (r .number)) (chain (rs ++ ss) v)
       go true q ih = ap refuses (sym (refuses-one (rw q at e)))
       go false q ih = ih (rw q at e)
+
+-- what a chain ends in, where no rule has the number 0
+pub chain-ends : {A : Type 0} (P : Answer A → Type 0) (rs : List Rule) (v : A) → Numbered rs → ((n : ℕ) → 0 < n → P (refuses n)) → P (gives v) → P (chain rs v)
+unfolding chain
+chain-ends P [] v h f g = g
+chain-ends P (r ∷ rs) v h f g = go (r .broken) (chain-ends P rs v (h .1) f g)
+  where
+    go : (b : Bool) → P (chain rs v) → P (cond b (refuses (r .number)) (chain rs v))
+    go true k = f (r .number) (h .0)
+    go false k = k
+
+pub numbered-append : (rs ss : List Rule) → Numbered rs → Numbered ss → Numbered (rs ++ ss)
+numbered-append [] ss h k = k
+numbered-append (r ∷ rs) ss h k = (h .0, numbered-append rs ss (h .1) k)
 
 -- the number of the first broken rule decides whether a rule is broken
 pub refusal-keeps : (r : Rule) (rs : List Rule) → 0 < r .number → refusal (r ∷ rs) ≡ 0 → (r .broken ≡ false) × (refusal rs ≡ 0)
@@ -281,11 +302,11 @@ pub reflects-stable : {A : Type 0} {b : Bool} → Reflects A b → ((A → ⊥) 
 reflects-stable (holds h) k = h
 reflects-stable (fails h) k = absurd (k h)
 
--- two tests of one statement
 pub reflects-dec : {A : Type 0} {b : Bool} → Reflects A b → Dec A
 reflects-dec (holds h) = yes h
 reflects-dec (fails h) = no h
 
+-- two tests of one statement
 pub reflects-agree : {A : Type 0} {a b : Bool} → Reflects A a → Reflects A b → a ≡ b
 reflects-agree (holds h) r = sym (reflects-true r h)
 reflects-agree (fails h) r = sym (reflects-false r h)

@@ -9,6 +9,8 @@
 --   apart-append, apart-at, apart-more    joined lists; the members at two places; related by more
 --   Other x y             x and y are different; `apart-map`: the members of a mapped list are
 --   apart-middle          where all members are different, none stands a second time among the others
+--   places-apart          they are where no two places hold the same
+--   apart-fewer           a list of different members has at most as many as one that holds them all
 --   kept f xs             those of xs that pass f
 --   kept-in, kept-out, kept-apart    what is in it; its members are different where those of xs are
 use mathlib.Core.Path.{_≡_, refl, sym, _∙_, ap, subst}
@@ -16,10 +18,10 @@ use mathlib.Core.Logic.{_⊎_, inl, inr, ⊎-elim}
 use mathlib.Core.Bool.{Bool, true, false, cond, false≢true}
 use mathlib.Core.List.{List, [], _∷_, _++_, map, List·Memᴰ, List·Memᴰ·head, List·Memᴰ·tail, List·Memᴰ·cases-cons, List·Memᴰ·append-cases, List·Memᴰ·not-nil, Memᴰ·of-map}
 use mathlib.Core.List.{Memᴰ·append-left, Memᴰ·append-right}
-use Prim.Native.Nat.{ℕ, zero, suc, _<_}
+use Prim.Native.Nat.{ℕ, zero, suc, _≤_, _<_}
 use native.Mathlib.Omega.{arith}
 use native.Mathlib.Nat.{not-suc-le-zero}
-use lib.ListN.{length, getD}
+use lib.ListN.{length, getD, length-append}
 
 module _ {A : Type 0} where
   pub getD-mem : (xs : List A) (d : A) (i : ℕ) → i < length xs → List·Memᴰ (getD xs i d) xs
@@ -107,6 +109,19 @@ apart-map f (x ∷ xs) p h =
 pub apart-middle : {A : Type 0} (p : List A) (a : A) (q : List A) → Apart Other (p ++ a ∷ q) → List·Memᴰ a (p ++ q) → ⊥
 apart-middle [] a q h m = h .0 a m refl
 apart-middle (x ∷ p) a q h m = ⊎-elim (λ e. h .0 a (Memᴰ·append-right p (List·Memᴰ·head refl)) (sym e)) (apart-middle p a q (h .1)) (List·Memᴰ·cases-cons m)
+
+pub places-apart : {A : Type 0} (d : A) (xs : List A) → ((i j : ℕ) → i < j → j < length xs → getD xs i d ≡ getD xs j d → ⊥) → Apart Other xs
+places-apart d [] h = tt
+places-apart d (x ∷ xs) h = (λ y m e. let (i, l, q) = mem-getD xs d m in h 0 (suc i) (omega arith) (omega arith) (e ∙ sym q), places-apart d xs (λ i j k l. h (suc i) (suc j) (omega arith) (omega arith)))
+
+pub apart-fewer : {A : Type 0} (xs ys : List A) → Apart Other xs → ((x : A) → List·Memᴰ x xs → List·Memᴰ x ys) → length xs ≤ length ys
+apart-fewer [] ys p h = omega arith
+apart-fewer {A} (x ∷ xs) ys p h = go (split-at x ys (h x (List·Memᴰ·head refl))) (apart-fewer xs)
+  where
+    go : Split x ys → ((zs : List A) → Apart Other xs → ((y : A) → List·Memᴰ y xs → List·Memᴰ y zs) → length xs ≤ length zs) → length (x ∷ xs) ≤ length ys
+    go s ih =
+        let fewer = ih (s .front ++ s .back) (p .1) (λ y m. ⊎-elim (λ e. absurd (p .0 y m (sym e))) (λ k. k) (middle (s .front) (s .back) (subst (List·Memᴰ y) (s .is) (h y (List·Memᴰ·tail m))))) in
+        rw (s .is) (omega (arith, length-append (s .front) (x ∷ s .back), length-append (s .front) (s .back)))
 
 -- those of a list that pass a test
 abbrev pub kept : {A : Type 0} → (A → Bool) → List A → List A

@@ -6,6 +6,7 @@
 --   first-none, first-on, first-found, first-end    a loop that looks for the first that passes
 --   fold-none, fold-more, fold-end           a loop that builds a value
 --   tally-none, tally-more, tally-end        a loop that counts
+--   tally-turn                               where only what passes a test is counted, one term more
 --   tally-same, tally-add, tally-zero        sums of functions that agree, of two functions, of none
 --   tally-single, tally-below                a sum with a term at one place only; a bound for each term
 --   length-tabulate, getD-tabulate           how long a table is, and what stands at a place of it
@@ -345,6 +346,10 @@ module _ (f : ℕ → ℕ) where
   unfolding tally
   tally-below zero k h = omega arith
   tally-below (suc n) k h = let a = tally-below n k (λ i l. h i (omega arith)) in let b = h n (omega arith) in omega arith
+
+pub tally-turn : (f : ℕ → Bool) (g : ℕ → ℕ) (r : ℕ) {s s′ : ℕ} {b : Bool}
+    → s ≡ tally r (λ i. cond (f i) (g i) 0) → f r ≡ b → s′ ≡ s + cond b (g r) 0 → s′ ≡ tally (r + 1) (λ i. cond (f i) (g i) 0)
+tally-turn f g r {s} e m p = tally-more (λ i. cond (f i) (g i) 0) r e (p ∙ ap (λ (b : Bool). s + cond b (g r) 0) (sym m))
 
 pub tally-same : (f g : ℕ → ℕ) (n : ℕ) → ((i : ℕ) → i < n → f i ≡ g i) → tally n f ≡ tally n g
 unfolding tally

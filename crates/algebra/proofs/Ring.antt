@@ -5,6 +5,7 @@
 --   Pol         a polynomial: coefficients, each with the sorted list of its variables
 --   norm e      the polynomial of e
 --   same a b    the difference of a and b has no coefficient left
+--   sub-zero→eq  numbers whose difference is 0 are the same
 --
 -- Main theorem: `ring`. An identity modulo a hypothesis is `ring ..` followed by `ap` of the hypothesis.
 use mathlib.Core.Path.{_≡_, refl, sym, _∙_, ap}

@@ -1,12 +1,15 @@
 -- Signs of whole numbers, by witnesses.
 --
 --   tri              which of the three
---   pos-*, nn-*      sums and products; `pos-cast`, `nn-cast` along an equation
+--   pos-mul, pos-add, pos-nn-add, nn-mul, nn-add     sums and products
+--   pos-nn, nn-zero  what is positive, and what is 0, is not negative; `pos-cast`, `nn-cast` along an equation
 --   pos-neg-mul, neg-pos-mul, neg-mul     products with a negative factor
 --   pos-zero, neg-nn     the signs exclude one another
 --   mul-zero, zero-mul, both-zero, neg-zero     products, combinations and negatives that are 0
 --   self-neg         a number that is its own negative is 0
---   *-of-mul         a factor taken away
+--   pos-of-mul, neg-of-mul, nn-of-mul, zero-of-mul     a factor taken away
+--   factor-l, factor-r   no factor of a negative product is 0
+--   dec-pos, dec-nz, np-of, zero-if     positive or not, 0 or not, and what is not positive, not other than 0
 --   nn-shared        two numbers that have not the opposite sign of a third one, which is not 0, have not opposite signs
 --   two-alike        of three numbers, two have not opposite signs
 --   square-nn, square-pos, squares-zero, square-mul     squares; one times a product

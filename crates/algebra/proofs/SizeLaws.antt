@@ -5,7 +5,7 @@
 --   sfits-size, size-sfits    a number fits a signed width where its size is small, and the other way round
 --   read-back                 what is read from the bits of a result is the result
 --   eqb-ofZ                   two numbers are the same where their bits are
---   signs-same, sign-is-*, below-is-minus    the machine's tests of signs -1, 0, 1, and of a number below 0
+--   signs-same, sign-is-plus, sign-is-nought, below-is-minus    the machine's tests of signs -1, 0, 1, and of a number below 0
 use mathlib.Core.Path.{_≡_, refl, sym, _∙_, ap, subst}
 use mathlib.Core.Bool.{Bool, true, false, cond}
 use Prim.Native.Nat.{ℕ, zero, suc, _+_, _*_, _-_, _^_, _<_, _≤_}

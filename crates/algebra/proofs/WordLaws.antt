@@ -9,7 +9,9 @@
 --   meets-reflects, inside-reflects, alone-reflects    the tests decide what they say
 --   sift-all, both-member, meets-at, inside-at         the same with no bound on the numbers
 --   combined, meets-words, inside-words, empty-words   the same word by word, as the loops of the code go
---   row-length, row-at, row-same, row-other, setRow-length     rows of a table
+--   row-length, row-at, row-same, row-other, row-behind, setRow-length     rows of a table; the words behind a row that is written
+--   row-whole                    k words, read as the first row of rows of k words, are those words
+--   row-only                     k words, written over k words, are what stands there
 --   Met w i met                  the words before word i hold exactly one number where met, and none where not
 --   met-none, met-skip, met-first, met-again, met-many, met-end    a loop that looks for exactly one number, word by word
 use mathlib.Core.Path.{_≡_, refl, sym, _∙_, ap, subst}
@@ -366,6 +368,18 @@ row-other k t p q w e ne =
     apart : (i j : ℕ) → i < k → j < k → k * q + i ≡ k * p + j → Dec (p < q) → ⊥
     apart i j l m z (yes h) = omega (arith, mul-le-mul-left k h)
     apart i j l m z (no h) = let g : q < p = omega arith in omega (arith, mul-le-mul-left k g)
+
+pub row-behind : (k : ℕ) (t : List ℕ) (p i : ℕ) (w : List ℕ) → length w ≡ k → k * p + k ≤ i → getD (setRow t p w) i 0 ≡ getD t i 0
+row-behind k t p i w e h = ap (λ (u : List ℕ). getD u i 0) (row-written k t p w e) ∙ written-out w (k * p) t k i (λ j m z. absurd (omega arith))
+
+module _ (k : ℕ) where
+  pub row-whole : (t : List ℕ) → length t ≡ k → rowOf k t 0 ≡ t
+  row-whole t e =
+      ext-getD 0 (rowOf k t 0) t (row-length k t 0 ∙ sym e)
+      (λ i h. let l : i < k = omega (arith, row-length k t 0) in row-at k t 0 i l ∙ ap (λ (j : ℕ). getD t j 0) (let z : k * 0 + i ≡ i = omega arith in z))
+
+  pub row-only : (t w : List ℕ) → length t ≡ k → length w ≡ k → setRow t 0 w ≡ w
+  row-only t w e f = sym (row-whole (setRow t 0 w) (setRow-length t 0 w ∙ e)) ∙ row-same k t 0 w f (omega arith)
 
 -- ---- exactly one number, word by word
 

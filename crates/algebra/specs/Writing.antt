@@ -2,7 +2,7 @@
 --
 --   wrote t at s    t with the run s written from place at on
 --   ascii s         the codes of a text of plain characters
---   decimalOf n     n in decimal digits, as text
+--   decimalOf n     n in decimal digits, as text; `digitsOf k n`: at most k of them
 --
 -- Laws: proofs/WritingLaws (`wrote-parts` says that what stands before and behind s stays).
 use mathlib.Core.Bool.{cond}

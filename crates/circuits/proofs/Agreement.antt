@@ -18,10 +18,9 @@ use Rattle.algebra.specs.Sign.{Sign, minus, nought, plus, signOf, opposite, isM
 use Rattle.algebra.proofs.SignLaws.{signOf-pos, signOf-neg, signOf-zero, signOf-opposite, opposite-opposite, opposite-signed}
 use Rattle.algebra.proofs.AnswerLaws.{reflects-yes, reflects-no, reflects-false, reflects-nought}
 use Rattle.algebra.proofs.SetLaws.{lex-same, picks-same}
-use Rattle.algebra.proofs.ListLaws.{getD-mem, mem-getD}
+use Rattle.algebra.proofs.ListLaws.{mem-getD}
 use Rattle.matroid.specs.Points.{Point, Points, turn, dot}
-use Rattle.matroid.specs.Circuits as published
-use Rattle.matroid.specs.Circuits.{SignVector, Alike, against}
+use Rattle.matroid.specs.Circuits.{SignVector, Circuit, Alike, against}
 use Rattle.matroid.proofs.Turns.{dot-pos}
 use Rattle.matroid.proofs.Planar.{weights3, weights4, Planar, e3, e4, weights3-off, weights3-a, weights3-b, weights3-c, weights4-off, weights4-a, weights4-b, weights4-c, weights4-d, planar-circuit, circuit-planar}
 use Rattle.matroid.proofs.CircuitLaws.{circuit-alike, circuit-against}
@@ -30,12 +29,12 @@ use Rattle.shots.specs.Coordinates.{pointOf, patchOf, areaOf}
 use Rattle.shots.specs.Patch.{countOf, orientOf, betweenOf}
 use Rattle.shots.specs.Tests.{refusalOf}
 use Rattle.shots.proofs.Patch.{patch-distinct, patch-differ}
-use Rattle.circuits.specs.Sides.{Circuit, split, signIn}
-use Rattle.circuits.specs.Numbered.{endSign, terms3, terms4, circuitsOf, shotsIn, Before}
-use Rattle.circuits.specs.Calls.{circuitAt}
+use Rattle.circuits.specs.Sides.{TwoSides, split, signIn}
+use Rattle.circuits.specs.Numbering.{endSign, terms3, terms4, circuitsOf, shotsIn, Before}
+use Rattle.circuits.specs.Calls.{circuitAt, signsOf}
 use Rattle.circuits.proofs.SideLaws.{signOn, relative, match-at}
 use Rattle.circuits.proofs.StepLaws.{none-of}
-use Rattle.circuits.proofs.Sources.{Three, Four, Source, from3, from4, OnLine, NoneOnLine, sources, listed, Made, made}
+use Rattle.circuits.proofs.Sources.{Three, Four, Source, from3, from4, OnLine, NoneOnLine, source-numbered, Made, made, source-at}
 use Rattle.circuits.proofs.Signs.{sign-in, numbers-in-order}
 
 -- two vectors with the same signs, or with every sign turned
@@ -63,7 +62,7 @@ module _ (l : List ℤ) (ok : refusalOf l ≡ 0) where
   P = pointOf l
 
   -- the signs among the terms, and against that of the first
-  by-first : (z : Circuit) (m : Made n z) (Y : SignVector) → Same (signOn (m .first ∷ m .rest)) Y → Same (signIn z) Y
+  by-first : (z : TwoSides) (m : Made n z) (Y : SignVector) → Same (signOn (m .first ∷ m .rest)) Y → Same (signIn z) Y
   unfolding opposite
   by-first z m Y s = go (m .first .sign) (λ i. sign-in n z m i) s
     where
@@ -192,7 +191,7 @@ module _ (l : List ℤ) (ok : refusalOf l ≡ 0) where
   -- ---- the two sides meet
 
   -- a circuit and a dependency of the same shots
-  pub record Meets (z : Circuit) (f : ℕ → ℤ) : Type 0 where
+  pub record Meets (z : TwoSides) (f : ℕ → ℤ) : Type 0 where
     pub kind : Planar n P f
     pub same : Same (signIn z) (λ i. signOf (f i))
 
@@ -204,7 +203,7 @@ module _ (l : List ℤ) (ok : refusalOf l ≡ 0) where
   unfolding made Y4
   meets4 q h = record { kind = four-planar q h; same = by-first _ (made l (from4 q h)) (Y4 q) (inl (four-same q)) }
 
-  dependency-of : {z : Circuit} → Source l z → (f : ℕ → ℤ) × Meets z f
+  dependency-of : {z : TwoSides} → Source l z → (f : ℕ → ℤ) × Meets z f
   dependency-of (from3 t h) = (weights3 P (t .a) (t .b) (t .c), meets3 t h)
   dependency-of (from4 q h) = (weights4 P (q .a) (q .b) (q .c) (q .d), meets4 q h)
 
@@ -212,7 +211,7 @@ module _ (l : List ℤ) (ok : refusalOf l ≡ 0) where
   unfolding orientOf areaOf
   nz-bent a b c h = reflects-false (reflects-nought (turn (P a) (P b) (P c))) h
 
-  circuit-of : {f : ℕ → ℤ} → Planar n P f → (z : Circuit) × Source l z × Meets z f
+  circuit-of : {f : ℕ → ℤ} → Planar n P f → (z : TwoSides) × Source l z × Meets z f
   unfolding orientOf areaOf
   circuit-of (e3 a b c ab bc cn e) =
       let t : Three n = record { a = a; b = b; c = c; ab = ab; bc = bc; cn = cn } in
@@ -225,39 +224,39 @@ module _ (l : List ℤ) (ok : refusalOf l ≡ 0) where
 
   -- ---- the theorems
 
-  pub circuit-published : (z : ℕ) → z < length (circuitsOf l) → published.Circuit n (patchOf l) (signIn (circuitAt l z))
-  circuit-published z h = go (dependency-of (sources l (getD-mem (circuitsOf l) (record { plus = []; minus = [] }) z h)))
+  pub circuit-published : (z : ℕ) → z < length (circuitsOf l) → Circuit n (patchOf l) (signsOf l z)
+  circuit-published z h = go (dependency-of (source-at l z h))
     where
-      go : (f : ℕ → ℤ) × Meets (circuitAt l z) f → published.Circuit n (patchOf l) (signIn (circuitAt l z))
+      go : (f : ℕ → ℤ) × Meets (circuitAt l z) f → Circuit n (patchOf l) (signsOf l z)
       go r = ⊎-elim (λ s. circuit-alike (λ i k. sym (s i)) c) (λ s. circuit-alike (λ i k. sym (s i)) (circuit-against c)) (r .1 .same)
         where
-          c : published.Circuit n (patchOf l) (λ i. signOf (r .0 i))
+          c : Circuit n (patchOf l) (λ i. signOf (r .0 i))
           c = planar-circuit n P (patch-distinct l ok) (r .0) (r .1 .kind)
 
-  pub published-numbered : (X : SignVector) → published.Circuit n (patchOf l) X → (z : ℕ) × (z < length (circuitsOf l)) × (Alike n X (signIn (circuitAt l z)) ⊎ Alike n X (against (signIn (circuitAt l z))))
+  pub published-numbered : (X : SignVector) → Circuit n (patchOf l) X → (z : ℕ) × (z < length (circuitsOf l)) × (Alike n X (signsOf l z) ⊎ Alike n X (against (signsOf l z)))
   published-numbered X c = found (circuit-planar n P (patch-distinct l ok) X c)
     where
-      joined : (f : ℕ → ℤ) (y : Circuit) → Same (signIn y) (λ i. signOf (f i)) → Alike n X (λ i. signOf (f i)) ⊎ Alike n X (against (λ i. signOf (f i))) → Alike n X (signIn y) ⊎ Alike n X (against (signIn y))
+      joined : (f : ℕ → ℤ) (y : TwoSides) → Same (signIn y) (λ i. signOf (f i)) → Alike n X (λ i. signOf (f i)) ⊎ Alike n X (against (λ i. signOf (f i))) → Alike n X (signIn y) ⊎ Alike n X (against (signIn y))
       joined f y (inl s) (inl x) = inl (λ i k. x i k ∙ sym (s i))
       joined f y (inl s) (inr x) = inr (λ i k. x i k ∙ ap opposite (sym (s i)))
       joined f y (inr s) (inl x) = inr (λ i k. x i k ∙ sym (turn-twice (signIn y) (λ j. signOf (f j)) s i))
       joined f y (inr s) (inr x) = inl (λ i k. x i k ∙ sym (s i))
 
-      found : (f : ℕ → ℤ) × Planar n P f × (Alike n X (λ i. signOf (f i)) ⊎ Alike n X (against (λ i. signOf (f i)))) → (z : ℕ) × (z < length (circuitsOf l)) × (Alike n X (signIn (circuitAt l z)) ⊎ Alike n X (against (signIn (circuitAt l z))))
+      found : (f : ℕ → ℤ) × Planar n P f × (Alike n X (λ i. signOf (f i)) ⊎ Alike n X (against (λ i. signOf (f i)))) → (z : ℕ) × (z < length (circuitsOf l)) × (Alike n X (signsOf l z) ⊎ Alike n X (against (signsOf l z)))
       found r =
           let y = circuit-of (r .1) in
-          let k = mem-getD (circuitsOf l) (record { plus = []; minus = [] }) (listed l (y .1)) in
-          (k .0, k .1, joined (r .0) (circuitAt l (k .0)) (subst (λ (w : Circuit). Same (signIn w) (λ i. signOf (r .0 i))) (sym (k .2)) (y .2 .same)) (r .2))
+          let k = mem-getD (circuitsOf l) (record { plus = []; minus = [] }) (source-numbered l (y .1)) in
+          (k .0, k .1, joined (r .0) (circuitAt l (k .0)) (subst (λ (w : TwoSides). Same (signIn w) (λ i. signOf (r .0 i))) (sym (k .2)) (y .2 .same)) (r .2))
 
 -- two numbers whose circuits have the same signs, or signs that are all turned, have the same shots, so they are one
 pub numbered-once : (l : List ℤ) (z z′ : ℕ) → z < length (circuitsOf l) → z′ < length (circuitsOf l)
-    → Alike (countOf l) (signIn (circuitAt l z)) (signIn (circuitAt l z′)) ⊎ Alike (countOf l) (signIn (circuitAt l z)) (against (signIn (circuitAt l z′))) → z ≡ z′
+    → Alike (countOf l) (signsOf l z) (signsOf l z′) ⊎ Alike (countOf l) (signsOf l z) (against (signsOf l z′)) → z ≡ z′
 unfolding shotsIn
 numbered-once l z z′ h h′ a = go (decLt z z′) (decLt z′ z)
   where
     shots-same : shotsIn (countOf l) (circuitAt l z) ≡ shotsIn (countOf l) (circuitAt l z′)
-    shots-same = picks-same (λ i. not (isNought (signIn (circuitAt l z) i))) (λ i. not (isNought (signIn (circuitAt l z′) i))) (countOf l)
-        (λ i k. ap not (⊎-elim (λ x. ap isNought (x i k)) (λ x. ap isNought (x i k) ∙ opposite-signed (signIn (circuitAt l z′) i)) a))
+    shots-same = picks-same (λ i. not (isNought (signsOf l z i))) (λ i. not (isNought (signsOf l z′ i))) (countOf l)
+        (λ i k. ap not (⊎-elim (λ x. ap isNought (x i k)) (λ x. ap isNought (x i k) ∙ opposite-signed (signsOf l z′ i)) a))
 
     never : (s t : List ℕ) → s ≡ t → Before s t → ⊥
     never s t e b = before-same t (subst (λ (x : List ℕ). Before x t) e b)

@@ -22,13 +22,13 @@ use Rattle.algebra.proofs.SetLaws.{nest-length}
 use Rattle.shots.specs.Sizes.{shotsMost}
 use Rattle.shots.specs.Patch.{countOf, orientOf}
 use Rattle.circuits.specs.Sizes.{circuitsMost, candidates}
-use Rattle.circuits.specs.Sides.{Circuit, split}
+use Rattle.circuits.specs.Sides.{TwoSides, split}
 use Rattle.circuits.proofs.Sources.{threeOf, fourOf, threes-nest, fours-nest}
 use Rattle.circuits.specs.Filled.{Filled, Fits}
-use Rattle.circuits.specs.Numbered.{oneIf, terms3, terms4, someFlat, three, four, threes, fours, circuitsOf}
+use Rattle.circuits.specs.Numbering.{oneIf, terms3, terms4, flatAmong, three, four, threes, fours, circuitsOf}
 
 -- one circuit at most
-one-or-none : (b : Bool) (z : Circuit) → length (oneIf b z) ≤ 1
+one-or-none : (b : Bool) (z : TwoSides) → length (oneIf b z) ≤ 1
 unfolding oneIf
 one-or-none true z = omega arith
 one-or-none false z = omega arith
@@ -48,7 +48,7 @@ module _ (l : List ℤ) where
   four-most (a ∷ []) = omega arith
   four-most (a ∷ b ∷ []) = omega arith
   four-most (a ∷ b ∷ c ∷ []) = omega arith
-  four-most (a ∷ b ∷ c ∷ d ∷ []) = one-or-none (not (someFlat l a b c d)) (split (terms4 l a b c d))
+  four-most (a ∷ b ∷ c ∷ d ∷ []) = one-or-none (not (flatAmong l a b c d)) (split (terms4 l a b c d))
   four-most (a ∷ b ∷ c ∷ d ∷ e ∷ s) = omega arith
 
   threes-few : length (threes l) ≤ length (setsOf 3 (countOf l))

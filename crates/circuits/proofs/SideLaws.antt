@@ -6,22 +6,26 @@
 --   on-side          a shot is on the side of sign s exactly when s is its sign
 --   Values, Off      what is known of a sign v at i: it is the sign of the term with that shot; no term has that shot
 --   match-at         a sign known so is the sign of shot i among the terms
+--   early-nought     a shot before all of the terms has the sign nought
+--   relative-self, relative-signed, nought-relative    a sign against itself is plus; against any sign it is nought exactly when it is
 --   sign-of-split    the sign of a shot in a split list of terms is its sign against that of the first
 --   on-shots         the shots with a sign are the shots of the terms
 --   side-within      a side of increasing shots is increasing
+--   plus-on, minus-on    a shot is on the plus side, on the minus side, exactly when that is its sign; for minus, where it is not on both
 use mathlib.Core.Path.{_≡_, refl, sym, _∙_, ap}
-use mathlib.Core.Bool.{Bool, true, false, cond, not, _||_, true≢false}
+use mathlib.Core.Logic.{_↔_}
+use mathlib.Core.Bool.{Bool, true, false, cond, not, _||_, true≢false, false≢true}
 use mathlib.Core.List.{List, [], _∷_}
 use Prim.Native.Nat.{ℕ, _+_, _<_, _≤_}
 use native.Mathlib.Omega.{arith}
 use native.Mathlib.Decide.{ℕ-discrete}
 use lib.Dec.{eqb}
 use borrow.Author.Tests.{eq-eqb, ne-eqb}
-use Rattle.algebra.specs.Sets.{isOn, Within}
+use Rattle.algebra.specs.Sets.{isOn, On, Within}
 use Rattle.algebra.specs.Sign.{Sign, minus, nought, plus, opposite, isNought, sameSign}
-use Rattle.circuits.specs.Sides.{Term, side, split, signIn}
+use Rattle.circuits.specs.Sides.{TwoSides, Term, side, split, signIn}
 use Rattle.algebra.proofs.SetLaws.{within-early}
-use Rattle.algebra.proofs.SignLaws.{opposite-signed}
+use Rattle.algebra.proofs.SignLaws.{opposite-signed, plus-minus, plus-nought, minus-nought}
 use Rattle.circuits.proofs.MaskLaws.{Signed}
 
 abbrev pub signOn : List Term → ℕ → Sign
@@ -143,3 +147,25 @@ side-within s lo n (t ∷ ts) w = go (sameSign s (t .sign)) (side-within s (t .s
     go : (b : Bool) → Within (t .shot + 1) (side s ts) n → Within lo (cond b (t .shot ∷ side s ts) (side s ts)) n
     go true ih = (w .0, w .1, ih)
     go false ih = within-early (t .shot + 1) lo n (side s ts) (let k = w .0 in omega arith) ih
+
+-- ---- the signs of two sides
+
+module _ (z : TwoSides) (i : ℕ) where
+  pub plus-on : On (z .plus) i ↔ (signIn z i ≡ plus)
+  unfolding signIn
+  plus-on = go (isOn i (z .plus)) (isOn i (z .minus))
+    where
+      go : (a b : Bool) → (a ≡ true) ↔ (cond a plus (cond b minus nought) ≡ plus)
+      go true b = (λ e. refl, λ e. refl)
+      go false true = (λ e. absurd (false≢true e), λ e. plus-minus (sym e))
+      go false false = (λ e. absurd (false≢true e), λ e. plus-nought (sym e))
+
+  pub minus-on : (On (z .plus) i → On (z .minus) i → ⊥) → On (z .minus) i ↔ (signIn z i ≡ minus)
+  unfolding signIn
+  minus-on = go (isOn i (z .plus)) (isOn i (z .minus))
+    where
+      go : (a b : Bool) → (a ≡ true → b ≡ true → ⊥) → (b ≡ true) ↔ (cond a plus (cond b minus nought) ≡ minus)
+      go true true h = absurd (h refl refl)
+      go true false h = (λ e. absurd (false≢true e), λ e. plus-minus e)
+      go false true h = (λ e. refl, λ e. refl)
+      go false false h = (λ e. absurd (false≢true e), λ e. minus-nought (sym e))

@@ -18,15 +18,15 @@ use Rattle.algebra.proofs.LoopLaws.{or-parts}
 use Rattle.algebra.proofs.SignLaws.{opposite-signed, same-turned, turned-other, value-nought}
 use Rattle.algebra.proofs.SizeLaws.{signs-same}
 use Rattle.shots.specs.Patch.{orientOf, betweenOf}
-use Rattle.circuits.specs.Sides.{Circuit, split, masks}
+use Rattle.circuits.specs.Sides.{TwoSides, split, masks}
 use Rattle.circuits.specs.Joined.{sides3, sides4}
-use Rattle.circuits.specs.Numbered.{oneIf, endSign, terms3, terms4, someFlat}
+use Rattle.circuits.specs.Numbering.{oneIf, endSign, terms3, terms4, flatAmong}
 use Rattle.circuits.specs.Filled.{Filled, put, pour, Fits}
 use Rattle.circuits.proofs.MaskLaws.{masks-split}
 
 -- ---- one circuit or none
 
-module _ (b : Bool) (z : Circuit) (f : Filled) where
+module _ (b : Bool) (z : TwoSides) (f : Filled) where
   pub none-added : b ≡ false → f ≡ pour f (oneIf b z)
   unfolding pour oneIf
   none-added h = rw h refl
@@ -70,10 +70,10 @@ none-of p q r s e =
 
 module _ (l : List ℤ) (a b c d : ℕ) where
   pub flat-test : {sa sb sc sd : ℤ} → sa ≡ value (orientOf l b c d) → sb ≡ value (orientOf l a c d) → sc ≡ value (orientOf l a b d) → sd ≡ value (orientOf l a b c)
-      → (eqZ sa (pos 0) || (eqZ sb (pos 0) || (eqZ sc (pos 0) || eqZ sd (pos 0)))) ≡ someFlat l a b c d
+      → (eqZ sa (pos 0) || (eqZ sb (pos 0) || (eqZ sc (pos 0) || eqZ sd (pos 0)))) ≡ flatAmong l a b c d
   flat-test e f g h = rw (e, f, g, h, value-nought (orientOf l b c d), value-nought (orientOf l a c d), value-nought (orientOf l a b d), value-nought (orientOf l a b c))
 
-  pub four-sides : {sa sb sc sd : ℤ} → someFlat l a b c d ≡ false → sa ≡ value (orientOf l b c d) → sb ≡ value (orientOf l a c d) → sc ≡ value (orientOf l a b d) → sd ≡ value (orientOf l a b c)
+  pub four-sides : {sa sb sc sd : ℤ} → flatAmong l a b c d ≡ false → sa ≡ value (orientOf l b c d) → sb ≡ value (orientOf l a c d) → sc ≡ value (orientOf l a b d) → sd ≡ value (orientOf l a b c)
       → sides4 a b c d (not (eqb (ofZ w8 sb) (ofZ w8 sa))) (eqb (ofZ w8 sc) (ofZ w8 sa)) (not (eqb (ofZ w8 sd) (ofZ w8 sa))) ≡ masks (split (terms4 l a b c d))
   four-sides h e f g k =
       let n = none-of (isNought (orientOf l b c d)) (isNought (orientOf l a c d)) (isNought (orientOf l a b d)) (isNought (orientOf l a b c)) h in

@@ -1,6 +1,6 @@
 pub mod Sizes
 pub mod Sides
-pub mod Numbered
+pub mod Numbering
 pub mod Lines
 pub mod Calls
 pub mod Joined

@@ -8,7 +8,7 @@ use lib.ListN.{length}
 use lib.IntN.{ℤ}
 use Rattle.algebra.specs.Answer.{Line}
 use Rattle.shots.specs.Lines.{shotLines}
-use Rattle.circuits.specs.Numbered.{circuitsOf}
+use Rattle.circuits.specs.Numbering.{circuitsOf}
 
 abbrev pub NotCircuit : List ℤ → ℕ → Type 0
 NotCircuit l z = length (circuitsOf l) ≤ z

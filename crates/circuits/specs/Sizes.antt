@@ -1,4 +1,4 @@
--- The sizes of this room; src/lib.rt has the same as a constant.
+-- How many circuits a patch can have; src/lib.rt has the most as a constant.
 --
 --   candidates n    the sets of three and of four of n shots, with nothing known of the shots: as many circuits as there can be
 --   circuitsMost    that number for the largest patch

@@ -9,7 +9,7 @@ ghost use Rattle.shots.specs.Sizes.{shotsMost};
 ghost use Rattle.shots.specs.Patch.{countOf};
 ghost use Rattle.shots.specs.Tests.{Near};
 ghost use Rattle.circuits.specs.Sizes.{circuitsMost};
-ghost use Rattle.circuits.specs.Numbered.{three, threesWith, threesFrom, threes, four, foursUpon, foursWith, foursFrom, fours, circuitsOf};
+ghost use Rattle.circuits.specs.Numbering.{three, threesWith, threesFrom, threes, four, foursUpon, foursWith, foursFrom, fours, circuitsOf};
 ghost use Rattle.circuits.specs.Filled.{filled, put, pour, Fits};
 use super::Sides;
 use super::masks;

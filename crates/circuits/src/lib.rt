@@ -5,7 +5,9 @@
 //
 // Every call takes every input; specs/Calls.antt says what it answers, specs/Lines.antt when it refuses.
 ghost use mathlib.Core.Path.{_≡_};
-ghost use Rattle.circuits.specs.Calls.{readCounted, readSplit, countCallOf, circuitCallOf};
+ghost use Rattle.shots.specs.Calls.{readCounted};
+ghost use Rattle.circuits.specs.Calls.{readSplit, countCallOf, circuitCallOf};
+use shots::Counted;
 
 pub mod core;
 mod masks;
@@ -17,11 +19,6 @@ pub const CIRCUITS_MOST: usize = 330;
 pub struct Sides {
     pub plus: u16,
     pub minus: u16,
-}
-
-pub enum Counted {
-    Count(usize),
-    Refused(u8),
 }
 
 pub enum Split {

@@ -7,13 +7,14 @@
 --   cross-decided    8: `crossing` decides `Cross`, for an accepted patch: its numbered circuits are the published ones, or those with every sign turned
 --   open-decided     9: `openEdge` decides `OpenEdge`
 --   listed-triple    what is in the list is a triple of the shots
+--   listed-decided   `listed` decides that a triple is in the list; `listed-at`: the triple of a rank is where its bit is set
 --   list-decided     the rules decide the lines
 --   accepted-iff-triangulation    no line holds exactly when the list is a triangulation and has no bit past the last rank
 --
 -- Source 001, Theorem 2.1; document 01, "What a surface is".
 use mathlib.Core.Path.{_≡_, refl, sym, _∙_, ap, subst}
 use mathlib.Core.Logic.{_⊎_, inl, inr, ⊎-elim, _↔_}
-use mathlib.Core.Bool.{Bool, true, false, not, cond, _&&_, true≢false}
+use mathlib.Core.Bool.{Bool, true, not, _&&_}
 use mathlib.Core.List.{List, [], _∷_}
 use Prim.Native.Nat.{ℕ, _*_, _≤_, _<_}
 use native.Mathlib.Omega.{arith}
@@ -22,32 +23,31 @@ use lib.ListN.{length}
 use lib.IntN.{ℤ}
 use Rattle.algebra.specs.Answer.{Reflects, holds, fails, Clear, Decides}
 use Rattle.algebra.specs.Loops.{any}
-use Rattle.algebra.specs.Sets.{isOn, On, Within}
-use Rattle.algebra.specs.Sign.{Sign, minus, nought, plus, opposite, isNought, sameSign}
+use Rattle.algebra.specs.Sets.{isOn, On, Within, sameList}
+use Rattle.algebra.specs.Sign.{minus, plus, opposite}
 use Rattle.algebra.specs.Words.{wordBits, member}
 use Rattle.algebra.proofs.AnswerLaws.{reflects-iff, reflects-not, reflects-or, reflects-and, reflects-leb, reflects-eqb, is-nought, reflects-stable}
-use Rattle.algebra.proofs.ListLaws.{getD-mem}
 use Rattle.algebra.proofs.LoopLaws.{reflects-any, reflects-test}
-use Rattle.algebra.proofs.SetTests.{reflects-on, reflects-all-on, on-low}
-use Rattle.algebra.proofs.SignLaws.{opposite-signed, plus-minus, plus-nought, minus-nought}
+use Rattle.algebra.proofs.SetTests.{reflects-on, reflects-all-on, reflects-same, on-low}
 use Rattle.matroid.specs.Configurations.{Configuration, Flat}
 use Rattle.matroid.specs.Circuits.{Alike, against, Crossing}
-use Rattle.matroid.specs.Triangulations.{Face, Border, Triangulation}
+use Rattle.matroid.specs.Triangulations.{Face, Border}
 use Rattle.matroid.proofs.Edges.{pair-face, face-pair, each-face}
 use Rattle.shots.specs.Coordinates.{pointOf, patchOf}
-use Rattle.shots.specs.Patch.{countOf, orientOf, borderOf}
+use Rattle.shots.specs.Patch.{countOf, orientOf}
 use Rattle.shots.specs.Tests.{refusalOf}
-use Rattle.shots.proofs.Orientations.{orient-is-chirotope, border-says}
-use Rattle.circuits.specs.Sides.{Circuit, split, signIn}
-use Rattle.circuits.specs.Numbered.{circuitsOf}
+use Rattle.shots.proofs.Orientations.{orient-is-chirotope}
+use Rattle.shots.proofs.Borders.{border-decided}
+use Rattle.circuits.specs.Sides.{TwoSides, signIn}
+use Rattle.circuits.specs.Numbering.{circuitsOf}
 use Rattle.circuits.specs.Calls.{circuitAt}
-use Rattle.circuits.proofs.SideLaws.{relative, signOn, on-side}
-use Rattle.circuits.proofs.Sources.{sources, Made, made}
-use Rattle.circuits.proofs.Signs.{sign-in, sides-within}
+use Rattle.circuits.proofs.SideLaws.{plus-on, minus-on}
+use Rattle.circuits.proofs.Sources.{made-at}
+use Rattle.circuits.proofs.Signs.{sides-within, sides-apart}
 use Rattle.circuits.proofs.Agreement.{circuit-published, published-numbered}
 use Rattle.triples.specs.Ranks.{tripleCount, tripleAt, rankOf}
-use Rattle.lists.specs.Tests.{isFlat, pastLast, someFlat, isEmpty, sidesIn, crosses, crossing, shared, openAt, openEdge, listRules}
-use Rattle.lists.specs.Lines.{Listed, PastLast, FlatTriple, NoTriple, Cross, OpenEdge, listLines}
+use Rattle.lists.specs.Tests.{listed, isFlat, pastLast, someFlat, isEmpty, sidesIn, crosses, crossing, shared, openAt, openEdge, listRules}
+use Rattle.lists.specs.Lines.{Listed, PastLast, FlatTriple, NoTriple, Cross, OpenEdge, listLines, Accepted}
 use Rattle.triples.proofs.RankLaws.{triple-at-within, rank-of-triple}
 
 -- ---- the members of a list
@@ -62,8 +62,8 @@ module _ (n : ℕ) (w : List ℕ) where
   )
       (reflects-any (λ r. (member w r ≡ true) × Q (tripleAt n r)) (λ r. member w r && f r) (tripleCount n) (λ r l. reflects-and (reflects-test (member w r)) (h r l)))
 
-  listed-decided : Reflects ((s : List ℕ) × Listed n w s) (any (tripleCount n) (member w))
-  listed-decided = reflects-iff (λ r. (tripleAt n (r .0), (r .0, r .1, r .2, refl)), λ r. (r .1 .0, r .1 .1, r .1 .2))
+  some-decided : Reflects ((s : List ℕ) × Listed n w s) (any (tripleCount n) (member w))
+  some-decided = reflects-iff (λ r. (tripleAt n (r .0), (r .0, r .1, r .2, refl)), λ r. (r .1 .0, r .1 .1, r .1 .2))
       (reflects-any (λ r. member w r ≡ true) (member w) (tripleCount n) (λ r l. reflects-test (member w r)))
 
   pub listed-triple : (s : List ℕ) → Listed n w s → Within 0 s n × (length s ≡ 3)
@@ -72,6 +72,15 @@ module _ (n : ℕ) (w : List ℕ) where
   -- ranks are one where their triples are
   one-rank : (r s : ℕ) → r < tripleCount n → s < tripleCount n → tripleAt n r ≡ tripleAt n s → r ≡ s
   one-rank r s h k e = sym (rank-of-triple n r h) ∙ ap (rankOf n) e ∙ rank-of-triple n s k
+
+  pub listed-decided : (t : List ℕ) → Reflects (Listed n w t) (listed n w t)
+  unfolding listed
+  listed-decided t = reflects-iff (λ r. (r .0, r .1, r .2 .0, r .2 .1), λ r. (r .0, r .1, (r .2, r .3)))
+      (reflects-any (λ r. (member w r ≡ true) × (tripleAt n r ≡ t)) (λ r. member w r && sameList (tripleAt n r) t) (tripleCount n)
+      (λ r h. reflects-and (reflects-test (member w r)) (reflects-same (tripleAt n r) t)))
+
+  pub listed-at : (r : ℕ) → r < tripleCount n → Listed n w (tripleAt n r) ↔ (member w r ≡ true)
+  listed-at r h = (λ (q, l, m, e). subst (λ (x : ℕ). member w x ≡ true) (one-rank q r l h e) m, λ m. (r, h, m, refl))
 
   -- another triple of the list than s holds i and j
   abbrev Shared : List ℕ → ℕ → ℕ → Type 0
@@ -83,43 +92,6 @@ module _ (n : ℕ) (w : List ℕ) where
       reflects-listed (λ t. (t ≡ tripleAt n r → ⊥) × On t i × On t j) (λ s. not (eqb s r) && (isOn i (tripleAt n s) && isOn j (tripleAt n s)))
       (λ s k. reflects-iff (λ p. (λ e. p .0 (one-rank s r k h e), p .1 .0, p .1 .1), λ p. (λ e. p .0 (ap (tripleAt n) e), (p .1, p .2)))
       (reflects-and (reflects-not (reflects-eqb s r)) (reflects-and (reflects-on i (tripleAt n s)) (reflects-on j (tripleAt n s)))))
-
--- ---- the sides of a numbered circuit
-
-minus-side : (s v : Sign) → isNought s ≡ false → sameSign (opposite s) v ≡ true → relative s v ≡ minus
-unfolding opposite
-minus-side minus minus h e = absurd (true≢false (sym e))
-minus-side minus nought h e = absurd (true≢false (sym e))
-minus-side minus plus h e = refl
-minus-side nought v h e = absurd (true≢false h)
-minus-side plus minus h e = refl
-minus-side plus nought h e = absurd (true≢false (sym e))
-minus-side plus plus h e = absurd (true≢false (sym e))
-
-plus-on : (z : Circuit) (i : ℕ) → On (z .plus) i ↔ (signIn z i ≡ plus)
-unfolding signIn
-plus-on z i = (λ o. rw o refl, go (isOn i (z .plus)) (isOn i (z .minus)))
-  where
-    go : (a b : Bool) → cond a plus (cond b minus nought) ≡ plus → a ≡ true
-    go true b e = refl
-    go false true e = plus-minus (sym e)
-    go false false e = plus-nought (sym e)
-
-on-minus : (z : Circuit) (i : ℕ) → signIn z i ≡ minus → On (z .minus) i
-unfolding signIn
-on-minus z i = go (isOn i (z .plus)) (isOn i (z .minus))
-  where
-    go : (a b : Bool) → cond a plus (cond b minus nought) ≡ minus → b ≡ true
-    go true b e = plus-minus e
-    go false true e = refl
-    go false false e = minus-nought (sym e)
-
-minus-on : (n : ℕ) (z : Circuit) → Made n z → (i : ℕ) → On (z .minus) i → signIn z i ≡ minus
-unfolding split
-minus-on n z m i o =
-    sign-in n z m i
-    ∙ minus-side (m .first .sign) (signOn (m .first ∷ m .rest) i) (m .signed .0)
-    (sym (on-side (opposite (m .first .sign)) 0 n (m .first ∷ m .rest) i (opposite-signed (m .first .sign) ∙ m .signed .0) (m .within)) ∙ ap (λ (c : Circuit). isOn i (c .minus)) (sym (m .is)) ∙ o)
 
 module _ (l : List ℤ) (w : List ℕ) where
   abbrev n : ℕ
@@ -150,19 +122,19 @@ module _ (l : List ℤ) (w : List ℕ) where
 
   pub empty-decided : Reflects (NoTriple l w) (isEmpty l w)
   unfolding isEmpty
-  empty-decided = reflects-not (listed-decided n w)
+  empty-decided = reflects-not (some-decided n w)
 
   -- ---- 8
 
   -- the sides of z are inside s and t
-  abbrev Inside : Circuit → List ℕ → List ℕ → Type 0
+  abbrev Inside : TwoSides → List ℕ → List ℕ → Type 0
   Inside z s t = ((i : ℕ) → On (z .plus) i → On s i) × ((i : ℕ) → On (z .minus) i → On t i)
 
-  inside-decided : (z : Circuit) (s t : List ℕ) → Reflects (Inside z s t) (sidesIn z s t)
+  inside-decided : (z : TwoSides) (s t : List ℕ) → Reflects (Inside z s t) (sidesIn z s t)
   unfolding sidesIn
   inside-decided z s t = reflects-and (reflects-all-on (z .plus) s) (reflects-all-on (z .minus) t)
 
-  crosses-decided : (z : Circuit) → Reflects ((s : List ℕ) × Listed n w s × ((t : List ℕ) × Listed n w t × Inside z s t)) (crosses n w z)
+  crosses-decided : (z : TwoSides) → Reflects ((s : List ℕ) × Listed n w s × ((t : List ℕ) × Listed n w t × Inside z s t)) (crosses n w z)
   unfolding crosses
   crosses-decided z =
       reflects-listed n w (λ s. (t : List ℕ) × Listed n w t × Inside z s t) (λ r. any (tripleCount n) (λ q. member w q && sidesIn z (tripleAt n r) (tripleAt n q)))
@@ -171,6 +143,10 @@ module _ (l : List ℤ) (w : List ℕ) where
   -- the sides of circuit z are inside two triples of the list
   abbrev InTriples : ℕ → Type 0
   InTriples z = (s : List ℕ) × Listed n w s × ((t : List ℕ) × Listed n w t × Inside (circuitAt l z) s t)
+
+  -- no shot is on both sides of circuit z
+  apart : (z : ℕ) → z < length (circuitsOf l) → (i : ℕ) → On (circuitAt l z .plus) i → On (circuitAt l z .minus) i → ⊥
+  apart z h = sides-apart n (circuitAt l z) (made-at l z h)
 
   module _ (ok : refusalOf l ≡ 0) where
     in-crossing : (z : ℕ) × (z < length (circuitsOf l)) × InTriples z → Cross l w
@@ -183,20 +159,17 @@ module _ (l : List ℤ) (w : List ℕ) where
         by = signIn (circuitAt l z);
         circuit = circuit-published l ok z h;
         left = λ i _ e. a i (plus-on (circuitAt l z) i .1 e);
-        right = λ i _ e. b i (on-minus (circuitAt l z) i e);
+        right = λ i _ e. b i (minus-on (circuitAt l z) i (apart z h i) .1 e);
       },
     )
 
     -- the signs of the crossing are those of the numbered circuit; or they are turned, and the two triples change places
     module _ (s t : List ℕ) (m : Listed n w s) (k : Listed n w t) (c : Crossing n P (On s) (On t)) (z : ℕ) (h : z < length (circuitsOf l)) where
-      made-at : Made n (circuitAt l z)
-      made-at = made l (sources l (getD-mem (circuitsOf l) (record { plus = []; minus = [] }) z h))
-
       on-plus : (i : ℕ) → On (circuitAt l z .plus) i → (i < n) × (signIn (circuitAt l z) i ≡ plus)
-      on-plus i o = (on-low (circuitAt l z .plus) 0 n i (sides-within n (circuitAt l z) made-at .0) o .1, plus-on (circuitAt l z) i .0 o)
+      on-plus i o = (on-low (circuitAt l z .plus) 0 n i (sides-within n (circuitAt l z) (made-at l z h) .0) o .1, plus-on (circuitAt l z) i .0 o)
 
       on-other : (i : ℕ) → On (circuitAt l z .minus) i → (i < n) × (signIn (circuitAt l z) i ≡ minus)
-      on-other i o = (on-low (circuitAt l z .minus) 0 n i (sides-within n (circuitAt l z) made-at .1) o .1, minus-on n (circuitAt l z) made-at i o)
+      on-other i o = (on-low (circuitAt l z .minus) 0 n i (sides-within n (circuitAt l z) (made-at l z h) .1) o .1, minus-on (circuitAt l z) i (apart z h i) .0 o)
 
       kept : Alike n (c .by) (signIn (circuitAt l z)) → InTriples z
       kept a = (s, m, (t, k, (λ i o. let (j, e) = on-plus i o in c .left i j (a i j ∙ e), λ i o. let (j, e) = on-other i o in c .right i j (a i j ∙ e))))
@@ -214,13 +187,6 @@ module _ (l : List ℤ) (w : List ℕ) where
 
   -- ---- 9
 
-  border-decided : (i j : ℕ) → Reflects (Border n P (i ∷ j ∷ [])) (borderOf l i j)
-  border-decided i j = reflects-iff (
-    λ e b. border-says l i j .0 e ((b .0 .0, b .0 .1, orient-is-chirotope l i j (b .0 .0) ∙ b .0 .2), (b .1 .0, b .1 .1, orient-is-chirotope l i j (b .1 .0) ∙ b .1 .2)),
-    λ h. border-says l i j .1 (λ b. h ((b .0 .0, b .0 .1, sym (orient-is-chirotope l i j (b .0 .0)) ∙ b .0 .2), (b .1 .0, b .1 .1, sym (orient-is-chirotope l i j (b .1 .0)) ∙ b .1 .2))),
-  )
-      (reflects-test (borderOf l i j))
-
   -- some edge i < j of s is no border pair, and no other triple of the list holds it
   abbrev OpenIn : List ℕ → Type 0
   OpenIn s = (j : ℕ) × (j < n) × ((i : ℕ) × (i < j) × ((On s i × On s j) × ((Border n P (i ∷ j ∷ []) → ⊥) × (Shared n w s i j → ⊥))))
@@ -229,7 +195,7 @@ module _ (l : List ℤ) (w : List ℕ) where
   unfolding openAt
   open-at r i j h =
       reflects-and (reflects-and (reflects-on i (tripleAt n r)) (reflects-on j (tripleAt n r)))
-      (reflects-and (reflects-not (border-decided i j)) (reflects-not (shared-decided n w r i j h)))
+      (reflects-and (reflects-not (border-decided l i j)) (reflects-not (shared-decided n w r i j h)))
 
   open-in : (r : ℕ) → r < tripleCount n → Reflects (OpenIn (tripleAt n r)) (any n (λ j. any j (λ i. openAt l w r i j)))
   open-in r h =
@@ -257,11 +223,11 @@ module _ (l : List ℤ) (w : List ℕ) where
   -- ---- the published theorem
 
   some-listed : (NoTriple l w → ⊥) → (s : List ℕ) × Listed n w s
-  some-listed = reflects-stable (listed-decided n w)
+  some-listed = reflects-stable (some-decided n w)
 
   -- an edge that is not open
   closed : (OpenEdge l w → ⊥) → (s : List ℕ) → Listed n w s → (e : List ℕ) → Face n P e s → Border n P e ⊎ ((t : List ℕ) × Listed n w t × (t ≡ s → ⊥) × Face n P e t)
-  closed none s m = each-face n (pointOf l) (λ u. Border n P u ⊎ ((t : List ℕ) × Listed n w t × (t ≡ s → ⊥) × Face n P u t)) s (λ i j h jl a b. go i j h jl a b (border-decided i j) (shared-decided n w (m .0) i j (m .1)))
+  closed none s m = each-face n (pointOf l) (λ u. Border n P u ⊎ ((t : List ℕ) × Listed n w t × (t ≡ s → ⊥) × Face n P u t)) s (λ i j h jl a b. go i j h jl a b (border-decided l i j) (shared-decided n w (m .0) i j (m .1)))
     where
       go : (i j : ℕ) → i < j → j < n → On s i → On s j → {p q : Bool} → Reflects (Border n P (i ∷ j ∷ [])) p → Reflects (Shared n w (tripleAt n (m .0)) i j) q
           → Border n P (i ∷ j ∷ []) ⊎ ((t : List ℕ) × Listed n w t × (t ≡ s → ⊥) × Face n P (i ∷ j ∷ []) t)
@@ -269,10 +235,10 @@ module _ (l : List ℤ) (w : List ℕ) where
       go i j h jl a b (fails c) (holds (t, k, (ne, x, y))) = inr (t, k, λ q. ne (q ∙ sym (m .3)), pair-face n (pointOf l) t i j h jl x y)
       go i j h jl a b (fails c) (fails d) = absurd (none (s, i ∷ j ∷ [], m, pair-face n (pointOf l) s i j h jl a b, c, λ (t, k, ne, f). let (x, y) = face-pair n (pointOf l) t i j f in d (t, k, (λ u. ne (u ∙ m .3), x, y))))
 
-  pub accepted-iff-triangulation : Clear (listLines l w) ↔ ((PastLast l w → ⊥) × Triangulation n P (Listed n w))
+  pub accepted-iff-triangulation : Clear (listLines l w) ↔ Accepted l w
   accepted-iff-triangulation = (into, out)
     where
-      into : Clear (listLines l w) → (PastLast l w → ⊥) × Triangulation n P (Listed n w)
+      into : Clear (listLines l w) → Accepted l w
       into (seven, (ten, (eight, (nine, _)))) = (
         λ p. seven (inl p),
         record {
@@ -283,7 +249,7 @@ module _ (l : List ℤ) (w : List ℕ) where
         },
       )
 
-      out : (PastLast l w → ⊥) × Triangulation n P (Listed n w) → Clear (listLines l w)
+      out : Accepted l w → Clear (listLines l w)
       out (p, g) = (
         ⊎-elim p (λ (s, m, h). g .simplices s m .full h),
         (

@@ -16,7 +16,7 @@
 use mathlib.Core.Path.{_≡_, refl, sym, _∙_, ap}
 use mathlib.Core.Logic.{_⊎_, inl, inr}
 use mathlib.Core.Bool.{Bool, true, false, not, _&&_, _||_, true≢false, Bool·not-not}
-use mathlib.Core.List.{List, []}
+use mathlib.Core.List.{List}
 use Prim.Native.Nat.{ℕ, _*_, _<_, _≤_}
 use native.Mathlib.Omega.{arith}
 use native.Mathlib.Decide.{decLt, ℕ-discrete}
@@ -30,15 +30,14 @@ use Rattle.algebra.specs.Sets.{isOn, allOn, Within, maskOf}
 use Rattle.algebra.specs.Words.{wordBits, Words, member, bothOf, meetsOf, insideOf, emptyOf, aloneOf, rowOf}
 use Rattle.algebra.proofs.AnswerLaws.{refusal-keeps, reflects-no, reflects-agree, reflects-iff, reflects-not, reflects-or, reflects-and, reflects-eqb}
 use Rattle.algebra.proofs.LoopLaws.{and-parts, or-parts, any-same, reflects-any, reflects-test}
-use Rattle.algebra.proofs.ListLaws.{getD-mem}
 use Rattle.algebra.proofs.SetTests.{mask-on}
 use Rattle.algebra.proofs.WordLaws.{member-past, member-sift, member-both, both-words, meets-reflects, alone-reflects}
 use Rattle.shots.specs.Sizes.{shotsMost}
 use Rattle.shots.specs.Patch.{countOf, borderOf}
-use Rattle.circuits.specs.Sides.{Circuit}
-use Rattle.circuits.specs.Numbered.{circuitsOf}
+use Rattle.circuits.specs.Sides.{TwoSides}
+use Rattle.circuits.specs.Numbering.{circuitsOf}
 use Rattle.circuits.specs.Calls.{circuitAt}
-use Rattle.circuits.proofs.Sources.{sources, made}
+use Rattle.circuits.proofs.Sources.{made-at}
 use Rattle.circuits.proofs.Signs.{sides-within}
 use Rattle.triples.specs.Sizes.{wordCount}
 use Rattle.triples.specs.Ranks.{tripleCount, tripleAt}
@@ -179,7 +178,7 @@ module _ (l : List ℤ) (w : List ℕ) (few : countOf l ≤ shotsMost) (v : Word
       at : (r : ℕ) → r < wordBits * wordCount → member (aroundOf n (maskOf s) (fullOf n)) r ≡ (ltb r last && allOn s (tripleAt n r))
       at r u = member-around n (maskOf s) (fullOf n) r u ∙ (λ k. member-full n r u k && mask-around n s (tripleAt n r) h k)
 
-  pub by-around : (z : Circuit) → Within 0 (z .plus) (countOf l) → Within 0 (z .minus) (countOf l)
+  pub by-around : (z : TwoSides) → Within 0 (z .plus) (countOf l) → Within 0 (z .minus) (countOf l)
       → (meetsOf w (aroundOf (countOf l) (maskOf (z .plus)) (fullOf (countOf l))) && meetsOf w (aroundOf (countOf l) (maskOf (z .minus)) (fullOf (countOf l)))) ≡ crosses (countOf l) w z
   unfolding crosses sidesIn
   by-around z p m =
@@ -208,7 +207,7 @@ module _ (l : List ℤ) (w : List ℕ) (few : countOf l ≤ shotsMost) (v : Word
       (λ z h. (λ k. meetsOf w (f z h k) && meetsOf w (g z h k)) ∙ (let s = sides z h in by-around (circuitAt l z) (s .0) (s .1)))
     where
       sides : (z : ℕ) → z < length (circuitsOf l) → Within 0 (circuitAt l z .plus) n × Within 0 (circuitAt l z .minus) n
-      sides z h = sides-within n (circuitAt l z) (made l (sources l (getD-mem (circuitsOf l) (record { plus = []; minus = [] }) z h)))
+      sides z h = sides-within n (circuitAt l z) (made-at l z h)
 
   -- ---- open edges
 

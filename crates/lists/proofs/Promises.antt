@@ -1,6 +1,6 @@
 -- What the public call `test` promises.
 --
---   shots-kept       no line of the shots holds: the patch is accepted
+--   accepted-decided for an accepted patch, the number that refuses a list decides that it is a triangulation with nothing past the last rank
 --   test-refuses     a refusal number exactly when its line is the first that holds
 --   test-accepts     accepted exactly when the patch is, the list has no bit past the last rank, and its triples are a triangulation in the published sense
 --   tested-right     a list that is accepted is one of a patch that is
@@ -13,24 +13,25 @@ use mathlib.Core.Logic.{_↔_}
 use mathlib.Core.Bool.{false, true≢false}
 use mathlib.Core.List.{List}
 use Prim.Native.Nat.{ℕ, _<_}
+use lib.Dec.{eqb}
 use lib.IntN.{ℤ}
-use Rattle.algebra.specs.Answer.{Answer, gives, refuses, First, Clear, Decides}
+use Rattle.algebra.specs.Answer.{Answer, gives, refuses, refusal, First, Clear, Reflects, Decides}
 use Rattle.algebra.specs.Words.{member}
-use Rattle.algebra.proofs.AnswerLaws.{one-answer, clear-refusal, chain-refuses-upon, chain-gives-upon, clear-append}
+use Rattle.algebra.proofs.AnswerLaws.{one-answer, chain-refuses-upon, chain-gives-upon, clear-append, clear-refusal, reflects-iff, reflects-eqb}
 use Rattle.matroid.specs.Triangulations.{Triangulation}
 use Rattle.shots.specs.Coordinates.{patchOf}
 use Rattle.shots.specs.Patch.{countOf}
 use Rattle.shots.specs.Tests.{shotRules, refusalOf}
 use Rattle.shots.specs.Lines.{shotLines}
-use Rattle.shots.proofs.Chains.{shots-numbered}
-use Rattle.shots.proofs.Promises.{shots-decided}
+use Rattle.shots.proofs.Promises.{shots-decided, shots-kept}
 use Rattle.triples.specs.Ranks.{tripleCount}
-use Rattle.lists.specs.Tests.{listRules}
-use Rattle.lists.specs.Lines.{Listed, PastLast, listLines, testLines}
+use Rattle.lists.specs.Tests.{listRules, listRefusalOf}
+use Rattle.lists.specs.Lines.{Listed, PastLast, listLines, testLines, Accepted}
 use Rattle.lists.specs.Calls.{readTested, testOf}
 use Rattle.lists.specs.declared.Tested.{Tested}
 use Rattle.lists.specs.declared.Tested.the-variants as T
 use Rattle.lists.proofs.Agreement.{list-decided, accepted-iff-triangulation}
+use Rattle.lists.proofs.Chains.{list-numbered}
 
 -- the case of an answer, from its number
 abbrev testedAs : Answer (Unit {0}) → Tested
@@ -41,13 +42,16 @@ tested-back : (r : Tested) → testedAs (readTested r) ≡ r
 tested-back T.Accepted = refl
 tested-back (T.Refused n) = refl
 
-pub shots-kept : (l : List ℤ) → Clear (shotLines l) → refusalOf l ≡ 0
-unfolding refusalOf
-shots-kept l h = clear-refusal (shotRules l) (shotLines l) (shots-numbered l) (shots-decided l) .1 h
+pub accepted-decided : (l : List ℤ) → refusalOf l ≡ 0 → (w : List ℕ) → Reflects (Accepted l w) (eqb (listRefusalOf l w) 0)
+unfolding listRefusalOf
+accepted-decided l ok w =
+    let c = clear-refusal (listRules l w) (listLines l w) (list-numbered l w) (list-decided l w ok) in
+    let a = accepted-iff-triangulation l w in
+    reflects-iff (λ e. a .0 (c .0 e), λ h. c .1 (a .1 h)) (reflects-eqb (refusal (listRules l w)) 0)
 
 module _ (l : List ℤ) (w : List ℕ) where
   decided : Clear (shotLines l) → Decides (listRules l w) (listLines l w)
-  decided h = list-decided l w (shots-kept l h)
+  decided h = list-decided l w (shots-kept l .0 h)
 
   pub test-refuses : (n : ℕ) → (testOf l w ≡ refuses n) ↔ First n (testLines l w)
   unfolding testOf
@@ -67,7 +71,7 @@ module _ (l : List ℤ) (w : List ℕ) where
       clear = clear-append (shotLines l) (listLines l w)
 
   pub tested-right : testOf l w ≡ gives tt → refusalOf l ≡ 0
-  tested-right e = shots-kept l (test-accepts .0 e .0)
+  tested-right e = shots-kept l .0 (test-accepts .0 e .0)
 
   pub test-one : (r r′ : Tested) → readTested r ≡ testOf l w → readTested r′ ≡ testOf l w → r ≡ r′
   test-one r r′ = one-answer readTested testedAs tested-back

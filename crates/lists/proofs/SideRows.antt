@@ -15,7 +15,7 @@ use Rattle.algebra.proofs.WordLaws.{row-same}
 use Rattle.shots.specs.Sizes.{shotsMost}
 use Rattle.shots.specs.Patch.{countOf}
 use Rattle.circuits.specs.Sizes.{circuitsMost}
-use Rattle.circuits.specs.Numbered.{circuitsOf}
+use Rattle.circuits.specs.Numbering.{circuitsOf}
 use Rattle.circuits.specs.Filled.{Filled, filled, pour}
 use Rattle.circuits.proofs.Bounds.{circuits-most}
 use Rattle.circuits.proofs.FilledLaws.{pour-lengths, poured-count, poured-at}

@@ -1,4 +1,4 @@
--- The sets of triples that are worked out once a call, by what they hold, and the table that they stand in; src/lib.rt has its rows as constants.
+-- The sets of triples that are worked out once a call, by what they hold, and the table that they stand in; src/lib.rt has the first row of each part as a constant.
 --
 --   solidOf l           the triples that are not flat
 --   innerOf l i j       the triples that hold i and j; none where they are a border pair
@@ -23,7 +23,7 @@ use Rattle.shots.specs.Sizes.{shotsMost}
 use Rattle.shots.specs.Patch.{countOf, borderOf}
 use Rattle.circuits.specs.Sizes.{circuitsMost}
 use Rattle.circuits.specs.Sides.{masks}
-use Rattle.circuits.specs.Numbered.{circuitsOf}
+use Rattle.circuits.specs.Numbering.{circuitsOf}
 use Rattle.circuits.specs.Calls.{circuitAt}
 use Rattle.triples.specs.Sizes.{wordCount}
 use Rattle.triples.specs.Ranks.{tripleAt}

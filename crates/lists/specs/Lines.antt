@@ -8,6 +8,7 @@
 --   OpenEdge l w      an edge of a triple of the list that is no edge of another one, and no border pair
 --   listLines l w     the lines 7, 10, 8, 9
 --   testLines l w     the table of `test`
+--   Accepted l w      the list is a triangulation of the patch: nothing past the last rank, and Theorem 2.1
 --
 -- The theorems: proofs/Promises, proofs/Agreement.
 use mathlib.Core.Path.{_≡_}
@@ -22,7 +23,7 @@ use Rattle.algebra.specs.Sets.{On}
 use Rattle.algebra.specs.Words.{wordBits, member}
 use Rattle.matroid.specs.Circuits.{Crossing}
 use Rattle.matroid.specs.Configurations.{Flat}
-use Rattle.matroid.specs.Triangulations.{Family, Face, Border}
+use Rattle.matroid.specs.Triangulations.{Family, Face, Border, Triangulation}
 use Rattle.shots.specs.Coordinates.{patchOf}
 use Rattle.shots.specs.Patch.{countOf}
 use Rattle.shots.specs.Lines.{shotLines}
@@ -58,3 +59,6 @@ listLines l w =
 
 abbrev pub testLines : List ℤ → List ℕ → List Line
 testLines l w = shotLines l ++ listLines l w
+
+abbrev pub Accepted : List ℤ → List ℕ → Type 0
+Accepted l w = (PastLast l w → ⊥) × Triangulation (countOf l) (patchOf l) (Listed (countOf l) w)

@@ -1,5 +1,6 @@
 -- When a list is refused, 7 10 8 9, as tests that compute (specs/Lines has them as statements). A list is a set of triples, one bit for each rank.
 --
+--   listed n w t       t is a triple of the list w
 --   isFlat l s         the triple s has orientation 0
 --   pastLast l w       a bit past the last rank
 --   someFlat l w       a flat triple
@@ -22,14 +23,17 @@ use lib.ListN.{length}
 use lib.IntN.{ℤ}
 use Rattle.algebra.specs.Answer.{Rule, refusal}
 use Rattle.algebra.specs.Loops.{any}
-use Rattle.algebra.specs.Sets.{isOn, allOn}
+use Rattle.algebra.specs.Sets.{isOn, allOn, sameList}
 use Rattle.algebra.specs.Sign.{isNought}
 use Rattle.algebra.specs.Words.{wordBits, member}
 use Rattle.shots.specs.Patch.{countOf, orientOf, borderOf}
-use Rattle.circuits.specs.Sides.{Circuit}
-use Rattle.circuits.specs.Numbered.{circuitsOf}
+use Rattle.circuits.specs.Sides.{TwoSides}
+use Rattle.circuits.specs.Numbering.{circuitsOf}
 use Rattle.circuits.specs.Calls.{circuitAt}
 use Rattle.triples.specs.Ranks.{tripleCount, tripleAt}
+
+unfoldable pub listed : ℕ → List ℕ → List ℕ → Bool
+listed n w t = any (tripleCount n) (λ r. member w r && sameList (tripleAt n r) t)
 
 -- what is no triple counts as flat
 unfoldable pub isFlat : List ℤ → List ℕ → Bool
@@ -48,10 +52,10 @@ someFlat l w = any (tripleCount (countOf l)) (λ r. member w r && isFlat l (trip
 unfoldable pub isEmpty : List ℤ → List ℕ → Bool
 isEmpty l w = not (any (tripleCount (countOf l)) (member w))
 
-unfoldable pub sidesIn : Circuit → List ℕ → List ℕ → Bool
+unfoldable pub sidesIn : TwoSides → List ℕ → List ℕ → Bool
 sidesIn z s t = allOn (z .plus) s && allOn (z .minus) t
 
-unfoldable pub crosses : ℕ → List ℕ → Circuit → Bool
+unfoldable pub crosses : ℕ → List ℕ → TwoSides → Bool
 crosses n w z = any (tripleCount n) (λ r. member w r && any (tripleCount n) (λ s. member w s && sidesIn z (tripleAt n r) (tripleAt n s)))
 
 unfoldable pub crossing : List ℤ → List ℕ → Bool

@@ -9,7 +9,7 @@ ghost use Rattle.shots.specs.Sizes.{shotsMost};
 ghost use Rattle.shots.specs.Patch.{countOf};
 ghost use Rattle.shots.specs.Tests.{Near};
 ghost use Rattle.circuits.specs.Sizes.{circuitsMost};
-ghost use Rattle.circuits.specs.Numbered.{circuitsOf};
+ghost use Rattle.circuits.specs.Numbering.{circuitsOf};
 ghost use Rattle.triples.specs.Sizes.{wordCount};
 ghost use Rattle.triples.specs.Sets.{wordsOf, fullOf, aroundOf, Written, Holding};
 ghost use Rattle.lists.specs.Tests.{listRefusalOf};

@@ -216,7 +216,7 @@ star-pieces : {n : ℕ} {T : Family} {X Y : SignVector} {s s′ q q′ : Sign} �
 star-pieces f g t (w, (p, c, b, x, h, y, j)) = (w, (p, c, b, f p x, h, g b y, j))
 
 module _ {n : ℕ} {T T′ : Family} {X Y : SignVector} {s q : Sign} (same : (p : List ℕ) → Piece n X s p ↔ Piece n Y q p) (other : (p : List ℕ) → Piece n X (opposite s) p ↔ Piece n Y (opposite q) p) where
-  pub flip-pieces : Flip n T X s T′ → Flip n T Y q T′
+  flip-pieces : Flip n T X s T′ → Flip n T Y q T′
   flip-pieces f = record {
     supported = record {
       some = let (p, c, a, h) = f .supported .some in (p, c, same p .0 a, h);

@@ -9,7 +9,9 @@
 --   section 3.4, T⁺(Z) and T⁻(Z), links, flips                    Flips
 --   document 01, shots in the plane                               Points: plane
 --
--- Coordinates and weights are whole numbers. For such points nothing is lost against the reals: the weights of a circuit are fixed up to a factor, and whole numbers, determinants, are among them.
+-- Coordinates and weights are whole numbers, the paper's are real. For points with whole coordinates the two say the same: the dependencies on a set of points are the solutions of linear
+-- equations with whole coefficients, so where there is a real one other than 0 there is one in fractions, and a multiple of it in whole numbers, inside the same set. On a smallest dependent set
+-- all solutions are multiples of one, so its signs are those of a whole solution or their opposites. That is an argument, not a theorem of this room: the reals are not in it.
 pub mod Determinants
 pub mod Configurations
 pub mod Points

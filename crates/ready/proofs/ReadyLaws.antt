@@ -14,7 +14,7 @@ use Rattle.shots.specs.Sizes.{shotsMost}
 use Rattle.shots.specs.Patch.{countOf}
 use Rattle.circuits.specs.Sizes.{circuitsMost}
 use Rattle.circuits.specs.Sides.{masks}
-use Rattle.circuits.specs.Numbered.{circuitsOf}
+use Rattle.circuits.specs.Numbering.{circuitsOf}
 use Rattle.circuits.specs.Calls.{circuitAt}
 use Rattle.circuits.proofs.Bounds.{circuits-most}
 use Rattle.triples.specs.Sizes.{wordCount}

@@ -1,4 +1,4 @@
--- What a run has worked out before its first step; src/core.rt has the rows as constants.
+-- What a run has worked out before its first step; src/core.rt has the first row of each part as a constant.
 --
 --   plusStarRow z, minusStarRow z    the rows of the stars of the sides of circuit z
 --   readyRows            the number of rows
@@ -14,7 +14,7 @@ use Rattle.algebra.specs.Words.{rowOf}
 use Rattle.shots.specs.Patch.{countOf}
 use Rattle.circuits.specs.Sizes.{circuitsMost}
 use Rattle.circuits.specs.Sides.{masks}
-use Rattle.circuits.specs.Numbered.{circuitsOf}
+use Rattle.circuits.specs.Numbering.{circuitsOf}
 use Rattle.circuits.specs.Calls.{circuitAt}
 use Rattle.triples.specs.Sizes.{wordCount}
 use Rattle.lists.specs.Held.{heldRows, Sided, Prepared}

@@ -5,7 +5,7 @@ ghost use lib.ListN.{length, getD};
 ghost use Rattle.shots.specs.Sizes.{shotsMost, maskBits};
 ghost use Rattle.shots.specs.Tests.{refusalOf};
 ghost use Rattle.circuits.specs.Sizes.{circuitsMost};
-ghost use Rattle.circuits.specs.Numbered.{circuitsOf};
+ghost use Rattle.circuits.specs.Numbering.{circuitsOf};
 ghost use Rattle.triples.specs.Sizes.{wordCount};
 ghost use Rattle.triples.specs.Sets.{wordsOf, Written, Holding};
 ghost use Rattle.lists.specs.Tests.{listRefusalOf};
@@ -26,7 +26,7 @@ pub const PLUS_STARS: usize = HELD_ROWS;
 
 pub const MINUS_STARS: usize = PLUS_STARS + CIRCUITS_MOST;
 
-pub const HELD_WORDS: usize = WORDS * (MINUS_STARS + CIRCUITS_MOST);
+pub const READY_WORDS: usize = WORDS * (MINUS_STARS + CIRCUITS_MOST);
 
 // Row first + z: the star of the side of circuit z.
 fn stars(

@@ -17,7 +17,7 @@ use lib.ListN.{length, getD, take, drop, length-append, length-drop}
 use lib.Seq.{getD-at, getD-drop, take-suc}
 use lib.IntN.{ℤ, pos, negsuc, natAbs}
 use borrow.Author.Tests.{lt-ltb, le-ltb}
-use Rattle.shots.specs.Sizes.{reach}
+use Rattle.shots.specs.Sizes.{farthest}
 use Rattle.records.specs.Fields.{Bytes, bytesOf, fieldOf, codeOf, signedOf}
 
 pub bytes-length : (k v : ℕ) → length (bytesOf k v) ≡ k
@@ -58,7 +58,7 @@ bytes-field (suc k) b at h l =
     low : (256 * fieldOf k b at + getD b (at + k) 0) % 256 ≡ getD b (at + k) 0
     low = let m = h (at + k) in omega arith
 
-pub signed-code : (z : ℤ) → natAbs z ≤ reach → signedOf (codeOf z) ≡ z
+pub signed-code : (z : ℤ) → natAbs z ≤ farthest → signedOf (codeOf z) ≡ z
 unfolding signedOf codeOf
 signed-code (pos m) h = rw (lt-ltb m (2 ^ 31) (omega arith)) refl
 signed-code (negsuc m) h = rw (le-ltb (2 ^ 32 - 1 - m) (2 ^ 31) (omega arith)) (ap negsuc (let e : 2 ^ 32 - 1 - (2 ^ 32 - 1 - m) ≡ m = omega arith in e))
@@ -71,7 +71,7 @@ code-signed v h = go (ltb v (2 ^ 31)) refl
     go true e = refl
     go false e = let z : 2 ^ 32 - 1 - (2 ^ 32 - 1 - v) ≡ v = omega arith in z
 
-pub code-low : (z : ℤ) → natAbs z ≤ reach → codeOf z < 256 ^ 4
+pub code-low : (z : ℤ) → natAbs z ≤ farthest → codeOf z < 256 ^ 4
 unfolding codeOf
 code-low (pos m) h = omega arith
 code-low (negsuc m) h = omega arith

@@ -17,7 +17,7 @@ use Rattle.algebra.specs.Loops.{over}
 use Rattle.algebra.proofs.AnswerLaws.{Unbroken, refusal-unbroken}
 use Rattle.algebra.proofs.LoopLaws.{getD-tabulate}
 use Rattle.algebra.proofs.OverLaws.{over-at, over-taken}
-use Rattle.shots.specs.Sizes.{shotsLeast, shotsMost, reach}
+use Rattle.shots.specs.Sizes.{shotsLeast, shotsMost, farthest}
 use Rattle.shots.specs.Patch.{countOf}
 use Rattle.shots.specs.Tests.{placeRules, shotRules, refusalOf, Near}
 use Rattle.shots.proofs.Patch.{patch-near, patch-few, patch-even}
@@ -63,7 +63,7 @@ module _ (b : List ℕ) (v : Bytes b) (u : Unbroken (patchFrame b)) where
 -- ---- a patch that is written
 
 module _ (l : List ℤ) (h : refusalOf l ≡ 0) where
-  low : (i : ℕ) → natAbs (getD l i (pos 0)) ≤ reach
+  low : (i : ℕ) → natAbs (getD l i (pos 0)) ≤ farthest
   unfolding Near
   low i = patch-near l h i
 

@@ -27,12 +27,12 @@ use Rattle.algebra.proofs.AnswerLaws.{Unbroken, gives-unbroken, unbroken-refusa
 use Rattle.shots.specs.Patch.{countOf}
 use Rattle.shots.specs.Tests.{shotRules, placeRules, refusalOf}
 use Rattle.shots.specs.Lines.{shotLines}
-use Rattle.shots.proofs.Promises.{shots-decided}
+use Rattle.shots.proofs.Promises.{shots-decided, shots-kept}
 use Rattle.lists.specs.Tests.{listRules}
 use Rattle.lists.specs.Lines.{listLines}
 use Rattle.lists.specs.Calls.{testOf}
 use Rattle.lists.proofs.Agreement.{list-decided, accepted-iff-triangulation}
-use Rattle.lists.proofs.Promises.{shots-kept, test-accepts}
+use Rattle.lists.proofs.Promises.{test-accepts}
 use Rattle.surfaces.specs.Calls.{readSurface}
 use Rattle.surfaces.specs.declared.Surface.{Surface}
 use Rattle.surfaces.proofs.Promises.{surface-one}
@@ -138,7 +138,7 @@ module _ (l : List ℤ) (t : List ℕ) where
 
 module _ (l : List ℤ) (w t : List ℕ) where
   listed : Clear (shotLines l) → Decides (listRules l w) (listLines l w)
-  listed h = list-decided l w (shots-kept l h)
+  listed h = list-decided l w (shots-kept l .0 h)
 
   pub write-surface-refuses : (n : ℕ) → (writeSurfaceOf l w t .answer ≡ refuses n) ↔ First n (writeSurfaceLines l w t)
   unfolding writeSurfaceOf
@@ -168,7 +168,7 @@ module _ (l : List ℤ) (b : List ℕ) where
   formLines = surfaceFrameLines (countOf l) b ++ record { number = 7; when = OutOfForm (countOf l) b } ∷ []
 
   record-decided : Clear (shotLines l) → Decides (surfaceFrame (countOf l) b ++ tripleRule (countOf l) b ∷ listRules l held) (formLines ++ listLines l held)
-  record-decided h = surface-decided l b (shots-kept l h)
+  record-decided h = surface-decided l b (shots-kept l .0 h)
 
   pub read-surface-refuses : (n : ℕ) → (readSurfaceOf l b ≡ refuses n) ↔ First n (readSurfaceLines l b)
   unfolding readSurfaceOf

@@ -1,11 +1,12 @@
 -- What each public call of this room answers, and all that it leaves, for every input.
 --
 --   readPatched, readWritten    the refusal number or the value of each case of an answer; surfaces has that of a list
---   PatchRead            a patch reader's answer, the number of shots, and the array beside it
+--   PatchRead            a patch reader's answer, the number of shots, and the array beside it; `readPatch`: of what the code gives; `coordinatesWith`: the array that goes with an answer
 --   readPatchOf b        the shots of a patch record, 0 in the places past them; or 5 6 1 5 2 3 4, and 0 everywhere
 --   framedOf n b         what the frame and the triples of a surface record say by themselves, for n shots: its list, or 5 6 7 5 7
 --   readSurfaceOf l b    the words of a surface record's list; or 1-4, 5 6 7 5 7 10 8 9
---   Writing              a writer's answer, the number of bytes written, and the whole buffer
+--   Writing              a writer's answer, the number of bytes written, and the whole buffer; `leftIn`: of what the code leaves; `bufferWith`: the buffer that goes with an answer
+--   roomRule s t         11: the buffer t is shorter than the bytes s
 --   writeOf rs s t       the bytes s written to the front of the buffer t; or a rule of rs, or 11 where t is shorter
 --   writePatchOf l t     the record of a patch; or 1-4, 11
 --   writeSurfaceOf l w t     the record of a list; or 1-4, 7 10 8 9, 11

@@ -1,7 +1,7 @@
 -- The two records, as bytes. Each is defined once, here; that the readers take exactly these and give back what was written is proved (proofs/RoundTrips).
 --
---   patchBytes l        the record of a patch: length, version, n, then x and y of each shot
---   tripleBytes n w     the triples of the list w, three bytes each, in the order of their ranks
+--   patchBytes l        the record of a patch: length, version, n, then x and y of each shot; `coordinateBytes l i`: the four bytes at place i
+--   tripleBytes n w     the triples of the list w, three bytes each, in the order of their ranks; `rankBytes n w r`: those of rank r
 --   surfaceBytes n w    the record of the list w of n shots: length, version, n, t, then t triples
 --
 -- Source: document 01, "Records".

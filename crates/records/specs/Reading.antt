@@ -1,6 +1,6 @@
 -- What a reader makes of bytes: the rules that refuse them, in order, as tests that compute (specs/Lines has them as statements), and what they hold.
 --
---   lengthRule k b       5: fewer than k bytes, or the length field is not the number of bytes after it
+--   lengthRule k b       5: fewer than k bytes, or the length field is not the number of bytes after it (`misfits`)
 --   versionRule b        6: the version byte is not 1
 --   patchFrame b         a patch record's 5 6 1 5
 --   coordinateAt b i     the coordinate at place i of a patch record
@@ -8,7 +8,9 @@
 --   patchRules b         5 6 1 5 2 3 4
 --   surfaceFrame n b     a surface record's 5 6 7 5
 --   tripleIn b j         triple j of a surface record
---   badAt n b j          7: triple j is out of form, or does not come after the one before it
+--   inForm n i j k       i < j < k are shots of n
+--   leastAt n b j        the least rank that triple j may have: one more than that of the triple before it
+--   badAt n b j          triple j is out of form, or does not come after the one before it; `tripleRule n b`, 7: some triple is
 --   listedIn n b j       the set of the first j triples
 --   listedOf n b         the list of a surface record
 --   surfaceRules l b     1 2 3 4, 5 6 7 5 7 10 8 9

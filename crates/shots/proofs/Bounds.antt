@@ -1,7 +1,7 @@
 -- How large what is computed of shots can be.
 --
---   near-gap      two coordinates differ by at most twice the reach
---   area-small    a double area is at most eight times the reach's square
+--   near-gap      two coordinates differ by at most twice `farthest`
+--   area-small    a double area is at most eight times its square
 --   borders-few   shot j makes at most j border pairs with smaller shots
 use mathlib.Core.Bool.{Bool, true, false, cond}
 use mathlib.Core.List.{List}
@@ -11,26 +11,26 @@ use lib.ListN.{getD}
 use lib.IntN.{ℤ, pos, natAbs, _-ℤ_, _*ℤ_}
 use Rattle.algebra.proofs.LoopLaws.{tally-below}
 use Rattle.algebra.proofs.SizeLaws.{natAbs-sub, mul-size}
-use Rattle.shots.specs.Sizes.{reach}
+use Rattle.shots.specs.Sizes.{farthest}
 use Rattle.shots.specs.Coordinates.{xOf, yOf, areaOf}
 use Rattle.shots.specs.Patch.{borderOf}
 use Rattle.shots.specs.Tests.{Near}
 use Rattle.shots.specs.Calls.{bordersOf}
 
 module _ (l : List ℤ) (h : Near l) where
-  pub near-gap : (i j : ℕ) → natAbs (getD l i (pos 0) -ℤ getD l j (pos 0)) ≤ 2 * reach
+  pub near-gap : (i j : ℕ) → natAbs (getD l i (pos 0) -ℤ getD l j (pos 0)) ≤ 2 * farthest
   unfolding Near
   near-gap i j = omega (arith, natAbs-sub (getD l i (pos 0)) (getD l j (pos 0)), h i, h j)
 
-  pub area-small : (a b c : ℕ) → natAbs (areaOf l a b c) ≤ 8 * reach * reach
+  pub area-small : (a b c : ℕ) → natAbs (areaOf l a b c) ≤ 8 * farthest * farthest
   unfolding areaOf xOf yOf
   area-small a b c =
       let p = near-gap (2 * b) (2 * a) in
       let q = near-gap (2 * c + 1) (2 * a + 1) in
       let r = near-gap (2 * b + 1) (2 * a + 1) in
       let s = near-gap (2 * c) (2 * a) in
-      let left = mul-size (xOf l b -ℤ xOf l a) (yOf l c -ℤ yOf l a) (2 * reach) (2 * reach) p q in
-      let right = mul-size (yOf l b -ℤ yOf l a) (xOf l c -ℤ xOf l a) (2 * reach) (2 * reach) r s in
+      let left = mul-size (xOf l b -ℤ xOf l a) (yOf l c -ℤ yOf l a) (2 * farthest) (2 * farthest) p q in
+      let right = mul-size (yOf l b -ℤ yOf l a) (xOf l c -ℤ xOf l a) (2 * farthest) (2 * farthest) r s in
       omega (arith, natAbs-sub ((xOf l b -ℤ xOf l a) *ℤ (yOf l c -ℤ yOf l a)) ((yOf l b -ℤ yOf l a) *ℤ (xOf l c -ℤ xOf l a)))
 
 pub borders-few : (l : List ℤ) (j : ℕ) → bordersOf l j ≤ j

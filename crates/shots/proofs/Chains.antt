@@ -1,5 +1,6 @@
 -- A chain of refusals that begins with the rules of shots, as each call has it: what the code has found out so far, and what that says of the chain.
 --
+--   shots-numbered    the rules of shots have numbers that are not 0
 --   shots-refused     the run is refused, by the number that `refusal` gives
 --   shots-passed      it is accepted, and the chain goes on behind its rules
 --   rule-broken, rule-kept    then one rule more is broken, or kept

@@ -18,7 +18,7 @@ use Rattle.algebra.proofs.LoopLaws.{reflects-any}
 use Rattle.algebra.proofs.SignLaws.{zero-if}
 use Rattle.matroid.specs.Points.{Point}
 use Rattle.matroid.proofs.Lines.{collinear-iff}
-use Rattle.shots.specs.Sizes.{shotsLeast, shotsMost, reach}
+use Rattle.shots.specs.Sizes.{shotsLeast, shotsMost, farthest}
 use Rattle.shots.specs.Coordinates.{xOf, yOf, pointOf, areaOf}
 use Rattle.shots.specs.Patch.{countOf, orientOf}
 use Rattle.shots.specs.Tests.{badCount, farAt, someFar, sameAt, sameBefore, someSame, bentAt, bentOf, bentBefore, someBent}
@@ -31,7 +31,7 @@ module _ (l : List ℤ) where
 
   pub far-decided : Reflects (Beyond l) (someFar l)
   unfolding someFar farAt
-  far-decided = reflects-any (λ i. reach < natAbs (getD l i (pos 0))) (farAt l) (length l) (λ i h. reflects-ltb reach (natAbs (getD l i (pos 0))))
+  far-decided = reflects-any (λ i. farthest < natAbs (getD l i (pos 0))) (farAt l) (length l) (λ i h. reflects-ltb farthest (natAbs (getD l i (pos 0))))
 
   -- ---- two shots equal
 

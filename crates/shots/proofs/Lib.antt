@@ -3,4 +3,5 @@ pub mod Decided
 pub mod Patch
 pub mod Chains
 pub mod Orientations
+pub mod Borders
 pub mod Promises

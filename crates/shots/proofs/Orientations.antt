@@ -5,7 +5,9 @@
 --   orient-repeated                              0 for a repeated shot
 --   right-is-left                                what lies right of a pair lies left of the pair turned
 --   between-says                                 of three shots on a line, which of them lies between the others
---   border-says                                  a border pair is one whose cocircuit has no two opposite signs
+--   orientation-agrees                           what `orientation` gives is the chirotope, as -1, 0 or 1
+--
+-- Border pairs: proofs/Borders.
 use mathlib.Core.Path.{_≡_, refl, sym, _∙_, ap}
 use mathlib.Core.Logic.{_⊎_, inl, inr, _↔_}
 use mathlib.Core.Bool.{true}
@@ -13,19 +15,21 @@ use mathlib.Core.List.{List, [], _∷_}
 use Prim.Native.Nat.{ℕ, _<_}
 use lib.IntN.{ℤ, pos}
 use Rattle.algebra.specs.Loops.{any}
-use Rattle.algebra.specs.Sign.{Sign, minus, nought, plus, signOf, opposite, isMinus, isPlus}
-use Rattle.algebra.specs.Answer.{Reflects}
-use Rattle.algebra.proofs.AnswerLaws.{reflects-iff, reflects-yes, reflects-true, reflects-minus, reflects-not, reflects-and, is-minus, is-plus}
-use Rattle.algebra.proofs.LoopLaws.{reflects-any}
+use Rattle.algebra.specs.Sign.{Sign, minus, nought, plus, signOf, opposite, value, isMinus, isPlus}
+use Rattle.algebra.specs.Answer.{Reflects, gives, Clear}
+use Rattle.algebra.proofs.AnswerLaws.{reflects-iff, reflects-yes, reflects-true, reflects-minus}
 use Rattle.algebra.proofs.SignLaws.{signOf-zero, zero-signOf, signOf-opposite}
 use Rattle.matroid.specs.Configurations.{chirotope}
 use Rattle.matroid.specs.Points.{Between, dot}
 use Rattle.matroid.proofs.Turns.{turn-is-volume, turn-cycle, turn-swap, turn-swap-first, turn-first, turn-last, turn-ends}
 use Rattle.matroid.proofs.Lines.{between-iff}
 use Rattle.shots.specs.Coordinates.{pointOf, patchOf, areaOf}
-use Rattle.shots.specs.Patch.{countOf, orientOf, betweenOf, someLeft, someRight, borderOf}
+use Rattle.shots.specs.Patch.{countOf, orientOf, betweenOf, someLeft, someRight}
 use Rattle.shots.specs.Tests.{refusalOf}
+use Rattle.shots.specs.Lines.{orientationLines}
+use Rattle.shots.specs.Calls.{orientationOf}
 use Rattle.shots.proofs.Patch.{patch-differ}
+use Rattle.shots.proofs.Promises.{orientation-gives}
 
 minus-plus : (s : Sign) → isMinus s ≡ isPlus (opposite s)
 unfolding opposite
@@ -75,16 +79,8 @@ module _ (l : List ℤ) where
       decided : Reflects (Between (pointOf l m) (pointOf l a) (pointOf l b)) (betweenOf l m a b)
       decided = between-decided m a b (zero-signOf (areaOf l m a b) e) (patch-differ l h m b ml bl mb)
 
-  -- some shot has the sign s in the cocircuit of i, j
-  abbrev pub Has : ℕ → ℕ → Sign → Type 0
-  Has i j s = (k : ℕ) × (k < countOf l) × (orientOf l i j k ≡ s)
-
-  pub border-says : (i j : ℕ) → (borderOf l i j ≡ true) ↔ (Has i j plus × Has i j minus → ⊥)
-  unfolding borderOf someLeft someRight
-  border-says i j = (λ t. reflects-yes decided t, λ s. reflects-true decided s)
-    where
-      decided : Reflects (Has i j plus × Has i j minus → ⊥) (borderOf l i j)
-      decided =
-          reflects-not
-          (reflects-and (reflects-any (λ k. orientOf l i j k ≡ plus) (λ k. isPlus (orientOf l i j k)) (countOf l) (λ k h. is-plus (orientOf l i j k)))
-          (reflects-any (λ k. orientOf l i j k ≡ minus) (λ k. isMinus (orientOf l i j k)) (countOf l) (λ k h. is-minus (orientOf l i j k))))
+  pub orientation-agrees : (a b c : ℕ) (v : ℤ) → (orientationOf l a b c ≡ gives v) ↔ (Clear (orientationLines l a b c) × (value (chirotope (patchOf l) (a ∷ b ∷ c ∷ [])) ≡ v))
+  orientation-agrees a b c v =
+      let o = ap value (orient-is-chirotope a b c) in
+      let g = orientation-gives l a b c v in
+      (λ e. let (k, q) = g .0 e in (k, sym o ∙ q), λ (k, q). g .1 (k, o ∙ q))

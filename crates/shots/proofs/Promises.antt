@@ -2,10 +2,12 @@
 -- its value exactly when no line holds, and no other answer is permitted.
 --
 --   shots-decided, orientation-decided, cocircuit-decided    the rules of the calls decide the lines of their tables
+--   shots-kept                                               no line of the shots holds exactly when the number that refuses the run is 0
 --   accept-refuses, orientation-refuses, double-area-refuses, cocircuit-refuses, border-refuses
 --   accept-gives, orientation-gives, double-area-gives, cocircuit-gives, border-gives
 --   cocircuit-signs, cocircuit-refused                       the array beside the answer
 --   accept-one, orientation-one, double-area-one, cocircuit-one, border-one    two permitted answers are the same
+--   counted-one                                              what is read as one count is one answer
 use mathlib.Core.Path.{_≡_, refl, ap}
 use mathlib.Core.Logic.{_⊎_, _↔_}
 use mathlib.Core.List.{List, [], _∷_, _++_}
@@ -15,11 +17,11 @@ use lib.IntN.{ℤ, pos, natAbs}
 use Rattle.algebra.specs.Answer.{Answer, gives, refuses, First, Clear, Decides}
 use Rattle.algebra.specs.Loops.{tabulate, tally}
 use Rattle.algebra.specs.Sign.{value}
-use Rattle.algebra.proofs.AnswerLaws.{chain-refuses, chain-gives, one-answer, decides-append, reflects-or, reflects-leb}
+use Rattle.algebra.proofs.AnswerLaws.{chain-refuses, chain-gives, clear-refusal, one-answer, decides-append, reflects-or, reflects-leb}
 use Rattle.shots.specs.Sizes.{shotsMost}
 use Rattle.shots.specs.Coordinates.{areaOf}
 use Rattle.shots.specs.Patch.{countOf, orientOf}
-use Rattle.shots.specs.Tests.{shotRules}
+use Rattle.shots.specs.Tests.{shotRules, refusalOf}
 use Rattle.shots.specs.Lines.{NotShot, NotPair, shotLines, orientationLines, cocircuitLines}
 use Rattle.shots.specs.Calls.{readAccepted, readOriented, readMeasured, readCounted, Cocircuit, readSigns, acceptOf, shotsRule, orientationOf, doubleAreaOf, pairRule, signAt, signsWith, cocircuitOf, bordersOf, borderCallOf}
 use Rattle.shots.specs.declared.Accepted.{Accepted}
@@ -32,6 +34,7 @@ use Rattle.shots.specs.declared.Counted.{Counted}
 use Rattle.shots.specs.declared.Counted.the-variants as C
 use Rattle.shots.specs.declared.Signs.{Signs}
 use Rattle.shots.proofs.Decided.{count-decided, far-decided, same-decided, line-decided}
+use Rattle.shots.proofs.Chains.{shots-numbered}
 
 module _ (l : List ℤ) where
   -- ---- the rules decide the lines
@@ -107,6 +110,10 @@ module _ (l : List ℤ) where
   unfolding borderCallOf
   border-gives v = chain-gives (shotRules l) (shotLines l) _ v shots-decided
 
+pub shots-kept : (l : List ℤ) → Clear (shotLines l) ↔ (refusalOf l ≡ 0)
+unfolding refusalOf
+shots-kept l = let k = clear-refusal (shotRules l) (shotLines l) (shots-numbered l) (shots-decided l) in (k .1, k .0)
+
 -- ---- one answer: each reading can be undone
 
 abbrev acceptedAs : Answer (Unit {0}) → Accepted
@@ -147,6 +154,9 @@ signsAs c = record { answer = acceptedAs (c .answer); signs = c .signs }
 signs-back : (r : Signs) → signsAs (readSigns r) ≡ r
 signs-back r = λ t. record { answer = accepted-back (r .answer) t; signs = r .signs }
 
+pub counted-one : {x : Answer ℕ} {r r′ : Counted} → readCounted r ≡ x → readCounted r′ ≡ x → r ≡ r′
+counted-one = one-answer readCounted countedAs counted-back
+
 pub accept-one : (l : List ℤ) (r r′ : Accepted) → readAccepted r ≡ acceptOf l → readAccepted r′ ≡ acceptOf l → r ≡ r′
 accept-one l r r′ = one-answer readAccepted acceptedAs accepted-back
 
@@ -160,4 +170,4 @@ pub cocircuit-one : (l : List ℤ) (i j : ℕ) (r r′ : Signs) → readSigns r 
 cocircuit-one l i j r r′ = one-answer readSigns signsAs signs-back
 
 pub border-one : (l : List ℤ) (r r′ : Counted) → readCounted r ≡ borderCallOf l → readCounted r′ ≡ borderCallOf l → r ≡ r′
-border-one l r r′ = one-answer readCounted countedAs counted-back
+border-one l r r′ = counted-one

@@ -5,8 +5,12 @@
 --   acceptOf l           accepted, or 1 2 3 4
 --   orientationOf l a b c   -1, 0 or 1; or 1-4, 7
 --   doubleAreaOf l a b c    the size of the signed double area; or 1-4, 7
+--   Cocircuit            the answer of `cocircuit`, and the places of the array beside it
 --   cocircuitOf l i j    the orientation of (i, j, k) at each shot k and 0 past them; or 1-4, 7, and 0 everywhere
 --   borderCallOf l       the number of border pairs; or 1-4
+--   shotsRule l a b c, pairRule l i j    7: one of three numbers is not a shot; not a pair i < j of shots
+--   signAt l i j k, signsWith a s        the sign of place k in the cocircuit of i, j; the array that goes with an answer
+--   bordersOf l j        how many i < j make a border pair with j
 --
 -- Source: document 01, "Shots and orientation".
 use mathlib.Core.Bool.{cond, _||_}

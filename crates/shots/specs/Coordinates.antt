@@ -1,4 +1,4 @@
--- A patch is one run of coordinates, x then y of each shot. Nothing above this room reads one.
+-- A patch is one run of coordinates, x then y of each shot. Above this room they are only written to a record and read from one.
 --
 --   xOf l i, yOf l i   the coordinates of shot i, 0 past the end
 --   pointOf l i        shot i as a point of the plane

@@ -1,5 +1,5 @@
--- What the rooms above know of a patch: how many shots it has, the orientation of three, which of three on a line is between the others, and which pairs
--- are border pairs. No definition above this room mentions more.
+-- What the tests, circuits and surfaces above this room are computed from: how many shots a patch has, the orientation of three, which of three on a line is
+-- between the others, and which pairs are border pairs. Beside it, sums of areas read `areaOf`, the published statements `patchOf` (specs/Coordinates), and records the run itself.
 --
 --   countOf l          the number of shots of the run l
 --   orientOf l a b c   the orientation of three shots: the sign of their double area
@@ -7,7 +7,7 @@
 --   someLeft, someRight    some shot has the sign plus, minus in the cocircuit of a pair
 --   borderOf l i j     the cocircuit of the pair has no two opposite signs
 --
--- Theorems: proofs/Orientations. Source: document 01, "Shots and orientation"; source 001, section 3.1.
+-- Theorems: proofs/Orientations, proofs/Borders. Source: document 01, "Shots and orientation"; source 001, section 3.1.
 use mathlib.Core.Bool.{Bool, not, _&&_}
 use mathlib.Core.List.{List}
 use Prim.Native.Nat.{ℕ, _/_}

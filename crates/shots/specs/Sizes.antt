@@ -1,8 +1,8 @@
--- The sizes that document 01 fixes; src/lib.rt has the same as constants.
+-- The sizes of a patch. src/lib.rt has the number of shots as constants, and the range of a coordinate as LOWEST and HIGHEST.
 --
 --   shotsLeast, shotsMost    a patch has 3 to 10 shots
 --   maskBits                 a set of shots is held in so many bits, one for each shot
---   reach                    a coordinate is from -1,000,000 to 1,000,000
+--   farthest                 a coordinate is from -1,000,000 to 1,000,000: its size is at most this
 use Prim.Native.Nat.{ℕ}
 
 abbrev pub shotsLeast : ℕ
@@ -14,5 +14,5 @@ shotsMost = 10
 abbrev pub maskBits : ℕ
 maskBits = 16
 
-abbrev pub reach : ℕ
-reach = 1000000
+abbrev pub farthest : ℕ
+farthest = 1000000

@@ -1,9 +1,9 @@
 -- When a run of coordinates is refused, 1 to 4, as tests that compute (specs/Lines has them as statements).
 --
 --   badCount l     not 3 to 10 shots, or an odd run
---   someFar l      a coordinate beyond its range
---   someSame l     two shots equal
---   someBent l     three shots that are not on one line
+--   someFar l      a coordinate beyond its range; `farAt l i`: at place i
+--   someSame l     two shots equal; `sameAt l j i`: shots i and j; `sameBefore l j`: shot j and one before it
+--   someBent l     three shots that are not on one line; `bentAt l c b a`: a, b, c; `bentOf l c b`: some a before b with them; `bentBefore l c`: some two before c with it
 --   placeRules l   the rules 2, 3, 4
 --   shotRules l    the four rules, in order
 --   refusalOf l    the number that refuses the run, 0 where it is accepted
@@ -19,7 +19,7 @@ use lib.IntN.{ℤ, pos, natAbs}
 use Rattle.algebra.specs.Answer.{Rule, refusal}
 use Rattle.algebra.specs.Loops.{any}
 use Rattle.algebra.specs.Sign.{eqZ, isNought}
-use Rattle.shots.specs.Sizes.{shotsLeast, shotsMost, reach}
+use Rattle.shots.specs.Sizes.{shotsLeast, shotsMost, farthest}
 use Rattle.shots.specs.Coordinates.{xOf, yOf}
 use Rattle.shots.specs.Patch.{countOf, orientOf}
 
@@ -27,7 +27,7 @@ unfoldable pub badCount : List ℤ → Bool
 badCount l = eqb (length l % 2) 1 || (ltb (countOf l) shotsLeast || ltb shotsMost (countOf l))
 
 unfoldable pub farAt : List ℤ → ℕ → Bool
-farAt l i = ltb reach (natAbs (getD l i (pos 0)))
+farAt l i = ltb farthest (natAbs (getD l i (pos 0)))
 
 unfoldable pub someFar : List ℤ → Bool
 someFar l = any (length l) (farAt l)
@@ -70,4 +70,4 @@ unfoldable pub refusalOf : List ℤ → ℕ
 refusalOf l = refusal (shotRules l)
 
 unfoldable pub Near : List ℤ → Type 0
-Near l = (i : ℕ) → natAbs (getD l i (pos 0)) ≤ reach
+Near l = (i : ℕ) → natAbs (getD l i (pos 0)) ≤ farthest

@@ -1,4 +1,4 @@
-// Shots: one lent run of coordinates, whole millimetres, x then y of each shot. Coordinates are read in this room alone.
+// Shots: one lent run of coordinates, whole millimetres, x then y of each shot. Above this room they are only written to a record and read from one.
 //
 //   accept         is the run a patch?                                     1 2 3 4
 //   orientation    the sign of three shots, -1, 0 or 1                     1-4, 7

@@ -4,7 +4,7 @@ ghost use Prim.Native.Nat.{_*_, _≤_, _<_};
 ghost use lib.ListN.{length, getD};
 ghost use lib.IntN.{pos, natAbs, _-ℤ_, _*ℤ_};
 ghost use Rattle.algebra.specs.Sign.{value, signOf};
-ghost use Rattle.shots.specs.Sizes.{reach};
+ghost use Rattle.shots.specs.Sizes.{farthest};
 ghost use Rattle.shots.specs.Coordinates.{areaOf};
 ghost use Rattle.shots.specs.Patch.{countOf, orientOf, betweenOf};
 ghost use Rattle.shots.specs.Tests.{Near};
@@ -32,7 +32,7 @@ fn gap(shots: &[i32], i: usize, j: usize) -> i64
 
 // p q - r s, of differences of coordinates.
 fn cross(p: i64, q: i64, r: i64, s: i64) -> i64
-    requires { ⌜ (natAbs p ≤ 2 * reach) × (natAbs q ≤ 2 * reach) × (natAbs r ≤ 2 * reach) × (natAbs s ≤ 2 * reach) ⌝ }
+    requires { ⌜ (natAbs p ≤ 2 * farthest) × (natAbs q ≤ 2 * farthest) × (natAbs r ≤ 2 * farthest) × (natAbs s ≤ 2 * farthest) ⌝ }
     ensures { λ v. ⌜ v ≡ p *ℤ q -ℤ r *ℤ s ⌝ }
 {
     p * q - r * s
@@ -72,7 +72,7 @@ pub fn sign(shots: &[i32], a: usize, b: usize, c: usize) -> i8
 
 // The size of a double area.
 fn size_of(x: i64) -> u64
-    requires { ⌜ natAbs x ≤ 8 * reach * reach ⌝ }
+    requires { ⌜ natAbs x ≤ 8 * farthest * farthest ⌝ }
     ensures { λ r. ⌜ r ≡ natAbs x ⌝ }
 {
     if x < 0 { (0 - x) as u64 } else { x as u64 }

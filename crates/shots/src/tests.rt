@@ -6,7 +6,7 @@ ghost use lib.Dec.{leb, ltb};
 ghost use lib.ListN.{length, getD};
 ghost use lib.IntN.{pos, natAbs};
 ghost use Rattle.algebra.specs.Sign.{eqZ};
-ghost use Rattle.shots.specs.Sizes.{reach};
+ghost use Rattle.shots.specs.Sizes.{farthest};
 ghost use Rattle.shots.specs.Patch.{countOf};
 ghost use Rattle.shots.specs.Tests.{Near, badCount, someFar, sameAt, sameBefore, someSame, bentAt, bentOf, bentBefore, someBent, refusalOf};
 use super::HIGHEST;
@@ -30,7 +30,7 @@ fn bad_count(shots: &[i32]) -> bool
 
 // Whether a coordinate is beyond its range.
 fn beyond(x: i32) -> bool
-    ensures { λ r. ⌜ r ≡ ltb reach (natAbs x) ⌝ }
+    ensures { λ r. ⌜ r ≡ ltb farthest (natAbs x) ⌝ }
 {
     if x < LOWEST {
         return true;

@@ -6,10 +6,8 @@
 --   numbered               every numbered circuit is so
 --   side-within, side-inside, side-sign    the shots of a side are increasing and below n, shots of the circuit, and those that have its sign
 --   on-support             the shots of the circuit, by their signs; `support-within`: they are increasing and below n
---   support-shots          they are those that a numbered circuit is made of; `source-at`: what it is made of
+--   support-shots          they are those that a numbered circuit is made of
 --   piece-published        the pieces are the published ones
---   listed-decided         `listed` decides that a triple is in the list
---   listed-at              the triple of rank r is in the list where r is a member
 --   link-published         the links of the pieces are the published ones
 --   supports-published     `supports` decides that the list supports the pieces
 --   Joining n w ps qs t    t is one of qs joined with a set that completes one of ps; `joins-decided`: `joins` decides it
@@ -23,8 +21,8 @@
 -- Source 001, section 3.4; document 01, "Flips".
 use mathlib.Core.Path.{_≡_, refl, sym, _∙_, ap, subst}
 use mathlib.Core.Logic.{_⊎_, inl, inr, ⊎-elim, _↔_}
-use mathlib.Core.Bool.{Bool, true, false, not, cond, _||_, _&&_, true≢false, false≢true}
-use mathlib.Core.List.{List, [], _∷_, List·Memᴰ, Memᴰ·cast, Memᴰ·map, Memᴰ·of-map}
+use mathlib.Core.Bool.{Bool, true, false, not, cond, _||_, _&&_, false≢true}
+use mathlib.Core.List.{List, [], List·Memᴰ, Memᴰ·cast, Memᴰ·map, Memᴰ·of-map}
 use Prim.Native.Nat.{ℕ, _+_, _-_, _*_, _≤_, _<_}
 use native.Mathlib.Omega.{arith}
 use native.Mathlib.Decide.{decLt}
@@ -33,65 +31,52 @@ use lib.IntN.{ℤ}
 use borrow.Author.Tests.{le-ltb}
 use Rattle.algebra.specs.Answer.{Reflects, holds, fails}
 use Rattle.algebra.specs.Sets.{isOn, On, sameList, union, dropped, Within, setsOf}
-use Rattle.algebra.specs.Sign.{Sign, minus, nought, plus, opposite, isNought, sameSign, Side}
+use Rattle.algebra.specs.Sign.{Sign, minus, nought, plus, opposite, isNought, Side}
 use Rattle.algebra.specs.Words.{wordBits, Words, member}
 use Rattle.algebra.proofs.AnswerLaws.{reflects-yes, reflects-true, reflects-stable, reflects-agree, reflects-iff, reflects-not, reflects-or, reflects-and, reflects-ltb}
-use Rattle.algebra.proofs.ListLaws.{getD-mem}
-use Rattle.algebra.proofs.LoopLaws.{reflects-any, reflects-anyOf, reflects-test}
+use Rattle.algebra.proofs.LoopLaws.{reflects-anyOf, reflects-test}
 use Rattle.algebra.proofs.SetLaws.{picks-same}
 use Rattle.algebra.proofs.SetTests.{reflects-same, mem-on, mem-sets, on-low, union-within, dropped-within}
-use Rattle.algebra.proofs.SignLaws.{plus-minus, plus-nought, minus-nought, opposite-signed, other-side, nought-side}
+use Rattle.algebra.proofs.SignLaws.{plus-nought, minus-nought, other-side, nought-side}
 use Rattle.algebra.proofs.WordLaws.{member-past, same-members, sift-words, member-sift}
 use Rattle.matroid.specs.Circuits.{SignVector}
 use Rattle.matroid.specs.Triangulations.{Family}
 use Rattle.matroid.specs.Flips.{Piece, Joins, Link, Supports, Star, Flip}
 use Rattle.shots.specs.Patch.{countOf}
-use Rattle.circuits.specs.Sides.{Circuit, split, signIn}
-use Rattle.circuits.specs.Numbered.{circuitsOf, shotsIn}
+use Rattle.circuits.specs.Sides.{TwoSides, signIn}
+use Rattle.circuits.specs.Numbering.{circuitsOf, shotsIn}
 use Rattle.circuits.specs.Calls.{circuitAt}
-use Rattle.circuits.proofs.SideLaws.{signOn, on-side}
-use Rattle.circuits.proofs.Sources.{Source, from3, from4, shots, sources, Made, made}
-use Rattle.circuits.proofs.Signs.{sides-within, shots-in}
+use Rattle.circuits.proofs.SideLaws.{plus-on, minus-on}
+use Rattle.circuits.proofs.Sources.{Source, from3, from4, shots, made, source-at}
+use Rattle.circuits.proofs.Signs.{sides-within, sides-apart, shots-in}
 use Rattle.triples.specs.Ranks.{tripleCount, tripleAt, rankOf}
 use Rattle.lists.specs.Lines.{Listed}
-use Rattle.lists.proofs.Agreement.{listed-triple}
-use Rattle.triples.proofs.RankLaws.{triple-at-within, rank-of-triple, triple-of-rank}
-use Rattle.surfaces.specs.Flips.{listed, supportOf, piecesOf, completions, completes, someLink, mixedLinks, supports, joins, exchanged}
+use Rattle.lists.proofs.Agreement.{listed-triple, listed-decided, listed-at}
+use Rattle.triples.proofs.RankLaws.{triple-at-within, triple-of-rank}
+use Rattle.surfaces.specs.Flips.{supportOf, piecesOf, completions, completes, someLink, mixedLinks, supports, joins, exchanged}
 use Rattle.algebra.proofs.UnionLaws.{set-known, on-either, on-without, union-apart, union-meets, dropped-length}
 
-abbrev pub sideOf : Circuit → Sign → List ℕ
+abbrev pub sideOf : TwoSides → Sign → List ℕ
 sideOf z minus = z .minus
 sideOf z nought = []
 sideOf z plus = z .plus
 
-abbrev pub swapped : ℕ → List ℕ → Circuit → Sign → List ℕ
+abbrev pub swapped : ℕ → List ℕ → TwoSides → Sign → List ℕ
 swapped n w z s = exchanged n w (piecesOf n z (sideOf z s)) (piecesOf n z (sideOf z (opposite s)))
 
 -- ---- what is used of a circuit
 
-pub record Proper (n : ℕ) (z : Circuit) : Type 0 where
+pub record Proper (n : ℕ) (z : TwoSides) : Type 0 where
   pub within-plus : Within 0 (z .plus) n
   pub within-minus : Within 0 (z .minus) n
   pub apart : (i : ℕ) → On (z .plus) i → On (z .minus) i → ⊥
   pub size : (length (supportOf n z) ≡ 3) ⊎ (length (supportOf n z) ≡ 4)
 
-module _ {n : ℕ} {z : Circuit} (k : Proper n z) where
+module _ {n : ℕ} {z : TwoSides} (k : Proper n z) where
   pub side-sign : (s : Sign) → Side s → (i : ℕ) → On (sideOf z s) i ↔ (signIn z i ≡ s)
-  unfolding signIn
-  side-sign minus d i = go (isOn i (z .plus)) (isOn i (z .minus)) (k .apart i)
-    where
-      go : (a b : Bool) → (a ≡ true → b ≡ true → ⊥) → (b ≡ true) ↔ (cond a plus (cond b minus nought) ≡ minus)
-      go true true h = absurd (h refl refl)
-      go true false h = (λ e. absurd (false≢true e), λ e. plus-minus e)
-      go false true h = (λ e. refl, λ e. refl)
-      go false false h = (λ e. absurd (false≢true e), λ e. minus-nought (sym e))
+  side-sign minus d i = minus-on z i (k .apart i)
   side-sign nought d i = absurd (nought-side d)
-  side-sign plus d i = go (isOn i (z .plus)) (isOn i (z .minus))
-    where
-      go : (a b : Bool) → (a ≡ true) ↔ (cond a plus (cond b minus nought) ≡ plus)
-      go true b = (λ e. refl, λ e. refl)
-      go false true = (λ e. absurd (false≢true e), λ e. plus-minus (sym e))
-      go false false = (λ e. absurd (false≢true e), λ e. plus-nought (sym e))
+  side-sign plus d i = plus-on z i
 
   pub support-within : Within 0 (supportOf n z) n
   unfolding supportOf
@@ -161,24 +146,7 @@ module _ {n : ℕ} {z : Circuit} (k : Proper n z) where
 
 -- ---- every numbered circuit
 
-both-signs : (s v : Sign) → isNought s ≡ false → sameSign s v ≡ true → sameSign (opposite s) v ≡ true → ⊥
-unfolding opposite
-both-signs minus minus h e f = false≢true f
-both-signs minus nought h e f = false≢true e
-both-signs minus plus h e f = false≢true e
-both-signs nought v h e f = true≢false h
-both-signs plus minus h e f = false≢true e
-both-signs plus nought h e f = false≢true e
-both-signs plus plus h e f = false≢true f
-
-made-apart : (n : ℕ) (x : Circuit) → Made n x → (i : ℕ) → On (x .plus) i → On (x .minus) i → ⊥
-unfolding split
-made-apart n x m i o p =
-    both-signs (m .first .sign) (signOn (m .first ∷ m .rest) i) (m .signed .0)
-    (sym (on-side (m .first .sign) 0 n (m .first ∷ m .rest) i (m .signed .0) (m .within)) ∙ ap (λ (c : Circuit). isOn i (c .plus)) (sym (m .is)) ∙ o)
-    (sym (on-side (opposite (m .first .sign)) 0 n (m .first ∷ m .rest) i (opposite-signed (m .first .sign) ∙ m .signed .0) (m .within)) ∙ ap (λ (c : Circuit). isOn i (c .minus)) (sym (m .is)) ∙ p)
-
-pub support-shots : (l : List ℤ) {x : Circuit} (k : Source l x) → supportOf (countOf l) x ≡ shots l k
+pub support-shots : (l : List ℤ) {x : TwoSides} (k : Source l x) → supportOf (countOf l) x ≡ shots l k
 unfolding supportOf union shotsIn signIn
 support-shots l {x} k =
     picks-same (λ i. isOn i (x .plus) || isOn i (x .minus)) (λ i. not (isNought (signIn x i))) (countOf l) (λ i h. go (isOn i (x .plus)) (isOn i (x .minus))) ∙ shots-in l k
@@ -188,21 +156,18 @@ support-shots l {x} k =
     go false true = refl
     go false false = refl
 
-made-size : (l : List ℤ) {x : Circuit} → Source l x → (length (supportOf (countOf l) x) ≡ 3) ⊎ (length (supportOf (countOf l) x) ≡ 4)
+made-size : (l : List ℤ) {x : TwoSides} → Source l x → (length (supportOf (countOf l) x) ≡ 3) ⊎ (length (supportOf (countOf l) x) ≡ 4)
 made-size l (from3 t h) = inl (ap length (support-shots l (from3 t h)))
 made-size l (from4 q h) = inr (ap length (support-shots l (from4 q h)))
-
-pub source-at : (l : List ℤ) (z : ℕ) → z < length (circuitsOf l) → Source l (circuitAt l z)
-source-at l z h = sources l (getD-mem (circuitsOf l) (record { plus = []; minus = [] }) z h)
 
 pub numbered : (l : List ℤ) (z : ℕ) → z < length (circuitsOf l) → Proper (countOf l) (circuitAt l z)
 numbered l z h = proper (source-at l z h)
   where
-    proper : {x : Circuit} → Source l x → Proper (countOf l) x
+    proper : {x : TwoSides} → Source l x → Proper (countOf l) x
     proper {x} k = record {
       within-plus = sides-within (countOf l) x (made l k) .0;
       within-minus = sides-within (countOf l) x (made l k) .1;
-      apart = made-apart (countOf l) x (made l k);
+      apart = sides-apart (countOf l) x (made l k);
       size = made-size l k;
     }
 
@@ -225,15 +190,6 @@ module _ (n : ℕ) (p c : List ℕ) (v : Within 0 p n) (u : Within 0 c n) where
 -- ---- the triples of a list
 
 module _ (n : ℕ) (w : List ℕ) where
-  pub listed-decided : (t : List ℕ) → Reflects (Listed n w t) (listed n w t)
-  unfolding listed
-  listed-decided t = reflects-iff (λ r. (r .0, r .1, r .2 .0, r .2 .1), λ r. (r .0, r .1, (r .2, r .3)))
-      (reflects-any (λ r. (member w r ≡ true) × (tripleAt n r ≡ t)) (λ r. member w r && sameList (tripleAt n r) t) (tripleCount n)
-      (λ r h. reflects-and (reflects-test (member w r)) (reflects-same (tripleAt n r) t)))
-
-  pub listed-at : (r : ℕ) → r < tripleCount n → Listed n w (tripleAt n r) ↔ (member w r ≡ true)
-  listed-at r h = (λ (q, l, m, e). subst (λ (x : ℕ). member w x ≡ true) (sym (rank-of-triple n q l) ∙ ap (rankOf n) e ∙ rank-of-triple n r h) m, λ m. (r, h, m, refl))
-
   -- t is one of qs joined with a set that completes one of ps
   abbrev pub Joining : List (List ℕ) → List (List ℕ) → List ℕ → Type 0
   Joining ps qs t = (q : List ℕ) × List·Memᴰ q qs × ((p : List ℕ) × List·Memᴰ p ps × ((c : List ℕ) × List·Memᴰ c (completions n p) × ((t ≡ union n q c) × (completes n w p c ≡ true))))
@@ -246,11 +202,11 @@ module _ (n : ℕ) (w : List ℕ) where
 
   completes-decided : (p c : List ℕ) → Reflects (Listed n w (union n p c)) (completes n w p c)
   unfolding completes
-  completes-decided p c = listed-decided (union n p c)
+  completes-decided p c = listed-decided n w (union n p c)
 
 -- ---- links, supports, stars
 
-module _ {n : ℕ} {z : Circuit} (k : Proper n z) (w : List ℕ) where
+module _ {n : ℕ} {z : TwoSides} (k : Proper n z) (w : List ℕ) where
   abbrev T : Family
   T = Listed n w
 

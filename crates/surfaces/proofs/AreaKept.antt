@@ -29,23 +29,23 @@ use Rattle.matroid.proofs.FlipLaws.{taken-out-old, link-off}
 use Rattle.shots.specs.Patch.{countOf}
 use Rattle.shots.specs.Tests.{refusalOf}
 use Rattle.shots.proofs.Patch.{patch-few}
-use Rattle.circuits.specs.Sides.{Circuit}
-use Rattle.circuits.specs.Numbered.{circuitsOf}
-use Rattle.circuits.specs.Calls.{circuitAt}
+use Rattle.shots.proofs.Promises.{shots-kept}
+use Rattle.circuits.specs.Sides.{TwoSides}
+use Rattle.circuits.specs.Numbering.{circuitsOf}
+use Rattle.circuits.specs.Calls.{circuitAt, signsOf}
 use Rattle.circuits.proofs.Agreement.{circuit-published}
 use Rattle.triples.specs.Sizes.{wordCount}
-use Rattle.lists.specs.Lines.{Listed}
+use Rattle.lists.specs.Lines.{Listed, Accepted}
+use Rattle.lists.proofs.Agreement.{listed-at}
 use Rattle.triples.specs.Ranks.{tripleCount, tripleAt, rankOf}
 use Rattle.triples.proofs.RankLaws.{rank-of-triple, triple-of-rank, triples-few}
-use Rattle.lists.proofs.Promises.{shots-kept}
 use Rattle.algebra.proofs.SignLaws.{nought-side}
-use Rattle.surfaces.specs.Areas.{sizeOf, areaSumOf}
+use Rattle.surfaces.specs.Areas.{tripleAreaOf, areaSumOf}
 use Rattle.surfaces.specs.Flips.{supportOf, piecesOf, completions, completes, joins, exchanged, flippedOf}
-use Rattle.surfaces.specs.Lines.{Accepted, signsOf}
 use Rattle.surfaces.specs.Calls.{flipOf}
 use Rattle.algebra.proofs.UnionLaws.{set-known, on-either, on-without, union-apart, dropped-length}
 use Rattle.surfaces.proofs.Agreement.{sideOf, swapped, Proper, side-within, side-inside, support-within, on-support, piece-published}
-use Rattle.surfaces.proofs.Agreement.{numbered, listed-at, Joining, joins-decided, link-published, supports-published, star-published}
+use Rattle.surfaces.proofs.Agreement.{numbered, Joining, joins-decided, link-published, supports-published, star-published}
 use Rattle.surfaces.proofs.Promises.{flip-gives, flip-published, flip-words, put-in-new-here}
 use Rattle.surfaces.proofs.Balance.{cone-balanced}
 
@@ -216,7 +216,7 @@ module _ (l : List ℤ) where
   n = countOf l
 
   abbrev size : ℕ → ℕ
-  size r = sizeOf l (tripleAt n r)
+  size r = tripleAreaOf l (tripleAt n r)
 
   module _ (w : List ℕ) (ps : List (List ℕ)) where
     abbrev joined : List (List ℕ) → ℕ
@@ -245,7 +245,7 @@ module _ (l : List ℤ) where
         at false false false x f g = refl
 
   module _ (ok : refusalOf l ≡ 0) (z : ℕ) (zl : z < length (circuitsOf l)) (w : List ℕ) where
-    abbrev Z : Circuit
+    abbrev Z : TwoSides
     Z = circuitAt l z
 
     abbrev S : List ℕ
@@ -258,11 +258,11 @@ module _ (l : List ℤ) where
     pieces s = piecesOf n Z (sideOf Z s)
 
     sides-balanced : (s : Sign) → Side s → (c : List ℕ) → Off n S c → length S + length c ≡ 4
-        → sumOf (λ p. sizeOf l (union n p c)) (pieces s) ≡ sumOf (λ p. sizeOf l (union n p c)) (pieces (opposite s))
+        → sumOf (λ p. tripleAreaOf l (union n p c)) (pieces s) ≡ sumOf (λ p. tripleAreaOf l (union n p c)) (pieces (opposite s))
     unfolding opposite
     sides-balanced s d c h e = go s d
       where
-        go : (s : Sign) → Side s → sumOf (λ p. sizeOf l (union n p c)) (pieces s) ≡ sumOf (λ p. sizeOf l (union n p c)) (pieces (opposite s))
+        go : (s : Sign) → Side s → sumOf (λ p. tripleAreaOf l (union n p c)) (pieces s) ≡ sumOf (λ p. tripleAreaOf l (union n p c)) (pieces (opposite s))
         go minus d = sym (cone-balanced l ok z zl c (h .0) e (h .1))
         go nought d = absurd (nought-side d)
         go plus d = cone-balanced l ok z zl c (h .0) e (h .1)
@@ -292,13 +292,13 @@ module _ (l : List ℤ) where
       links-apart = kept-apart (λ c. anyOf (λ p. completes n w p c) (pieces s)) (setsOf (4 - length S) n) (sets-apart (4 - length S) n)
 
       -- the sum of what is joined, cone by cone
-      joined-sum : (q : Sign) → joined w (pieces s) (pieces q) ≡ sumOf (λ c. sumOf (λ p. sizeOf l (union n p c)) (pieces q)) links
+      joined-sum : (q : Sign) → joined w (pieces s) (pieces q) ≡ sumOf (λ c. sumOf (λ p. tripleAreaOf l (union n p c)) (pieces q)) links
       unfolding piecesOf
       joined-sum q =
           tally-same _ _ (tripleCount n) (λ r h. ap (λ (t : Bool). cond t (size r) 0) (joins-coned n w (pieces s) (4 - length S) piece-lacks (pieces q) r h))
-          ∙ pick-sum n (sizeOf l) (coned n (pieces q) links) (coned-triple n S (support-within proper) (sideOf Z q) (side-within proper q) (side-inside proper q) links link-clear)
+          ∙ pick-sum n (tripleAreaOf l) (coned n (pieces q) links) (coned-triple n S (support-within proper) (sideOf Z q) (side-within proper q) (side-inside proper q) links link-clear)
           (coned-apart n S (support-within proper) (sideOf Z q) (side-within proper q) (side-inside proper q) links links-apart (λ c m. link-clear c m .0))
-          ∙ sum-coned n (sizeOf l) (pieces q) links
+          ∙ sum-coned n (tripleAreaOf l) (pieces q) links
 
       exchange-keeps-area : tripleCount n ≤ wordBits * length w → ((r : ℕ) → r < tripleCount n → joins n w (pieces s) (pieces s) r ≡ true → member w r ≡ true)
           → ((r : ℕ) → r < tripleCount n → joins n w (pieces s) (pieces (opposite s)) r ≡ true → member w r ≡ false) → areaSumOf l (swapped n w Z s) ≡ areaSumOf l w
@@ -326,7 +326,7 @@ pub flip-keeps-area : (l : List ℤ) (w w′ : List ℕ) (z : ℕ) → Words wor
 unfolding flippedOf opposite
 flip-keeps-area l w w′ z v e =
     let (c, a, h, f, _) = flip-published l w w′ z v (flip-words l w w′ z (v .0) e) .0 e in
-    ap (areaSumOf l) (sym (flip-gives l w z w′ .0 e .1)) ∙ go (shots-kept l c) a h f (supports-published (numbered l z h) w plus (inl refl))
+    ap (areaSumOf l) (sym (flip-gives l w z w′ .0 e .1)) ∙ go (shots-kept l .0 c) a h f (supports-published (numbered l z h) w plus (inl refl))
   where
     go : {b : Bool} → refusalOf l ≡ 0 → Accepted l w → z < length (circuitsOf l) → Flipped (countOf l) (Listed (countOf l) w) (signsOf l z) (Listed (countOf l) w′)
         → Reflects (Supports (countOf l) (Listed (countOf l) w) (signsOf l z) plus) b

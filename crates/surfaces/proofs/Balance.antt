@@ -27,11 +27,11 @@ use Rattle.matroid.proofs.Balance.{sideVolume, circuit-balanced}
 use Rattle.shots.specs.Coordinates.{pointOf, patchOf, areaOf}
 use Rattle.shots.specs.Patch.{countOf}
 use Rattle.shots.specs.Tests.{refusalOf}
-use Rattle.circuits.specs.Sides.{Circuit, signIn}
-use Rattle.circuits.specs.Numbered.{circuitsOf}
+use Rattle.circuits.specs.Sides.{TwoSides, signIn}
+use Rattle.circuits.specs.Numbering.{circuitsOf}
 use Rattle.circuits.specs.Calls.{circuitAt}
 use Rattle.circuits.proofs.Agreement.{circuit-published}
-use Rattle.surfaces.specs.Areas.{sizeOf}
+use Rattle.surfaces.specs.Areas.{tripleAreaOf}
 use Rattle.surfaces.specs.Flips.{supportOf, piecesOf}
 use Rattle.surfaces.proofs.Agreement.{Proper, sideOf, side-sign, side-within, side-inside, support-within, on-support, numbered}
 
@@ -39,8 +39,8 @@ module _ (l : List ℤ) where
   abbrev n : ℕ
   n = countOf l
 
-  size-volume : (t : List ℕ) → length t ≡ 3 → sizeOf l t ≡ natAbs (volume (patchOf l) t)
-  unfolding sizeOf areaOf
+  size-volume : (t : List ℕ) → length t ≡ 3 → tripleAreaOf l t ≡ natAbs (volume (patchOf l) t)
+  unfolding tripleAreaOf areaOf
   size-volume [] e = absurd (omega arith)
   size-volume (i ∷ []) e = absurd (omega arith)
   size-volume (i ∷ j ∷ []) e = absurd (omega arith)
@@ -49,7 +49,7 @@ module _ (l : List ℤ) where
 
   module _ (ok : refusalOf l ≡ 0) (z : ℕ) (zl : z < length (circuitsOf l)) (c : List ℕ) (v : Within 0 c n) (four : length (supportOf n (circuitAt l z)) + length c ≡ 4)
       (off : (i : ℕ) → On (supportOf n (circuitAt l z)) i → On c i → ⊥) where
-    abbrev Z : Circuit
+    abbrev Z : TwoSides
     Z = circuitAt l z
 
     abbrev S : List ℕ
@@ -71,7 +71,7 @@ module _ (l : List ℤ) where
         let a = on-without n i T (union-within n S c) j in let b = on-either n S c (support-within proper) v j in let d = on-either n (dropped n i S) c (dropped-within n i S) v j in let e = on-without n i S (support-within proper) j in
         (λ p. let q = a .0 p in d .1 (⊎-elim (λ x. inl (e .1 (x, q .1))) inr (b .0 (q .0))), λ p. a .1 (⊎-elim (λ x. (b .1 (inl (e .0 x .0)), e .0 x .1)) (λ x. (b .1 (inr x), λ y. off i o (subst (On c) y x))) (d .0 p))))
 
-    cone-size : (i : ℕ) → On S i → sizeOf l (union n (dropped n i S) c) ≡ natAbs (volume (patchOf l) (dropped n i T))
+    cone-size : (i : ℕ) → On S i → tripleAreaOf l (union n (dropped n i S) c) ≡ natAbs (volume (patchOf l) (dropped n i T))
     cone-size i o =
         size-volume (union n (dropped n i S) c) (let x = union-apart n (dropped n i S) c (dropped-within n i S) v (λ j p q. off j (on-without n i S (support-within proper) j .0 p .0) q) in
         let y = dropped-length n i S (support-within proper) o in omega (arith, four))
@@ -79,17 +79,17 @@ module _ (l : List ℤ) where
 
     -- the pieces of one side, as a sum over all shots
     side-sum : (s : Sign) (t : Sign → Bool) → ((i : ℕ) → isOn i (sideOf Z s) ≡ t (signIn Z i))
-        → sumOf (λ p. sizeOf l (union n p c)) (piecesOf n Z (sideOf Z s)) ≡ sideVolume n (patchOf l) (signIn Z) (circuit-published l ok z zl) T (union-within n S c) (λ i k. on-T i) t
+        → sumOf (λ p. tripleAreaOf l (union n p c)) (piecesOf n Z (sideOf Z s)) ≡ sideVolume n (patchOf l) (signIn Z) (circuit-published l ok z zl) T (union-within n S c) (λ i k. on-T i) t
     unfolding piecesOf
     side-sum s t h =
-        sum-map (λ p. sizeOf l (union n p c)) (λ i. dropped n i S) (sideOf Z s) ∙ sum-within (λ i. sizeOf l (union n (dropped n i S) c)) (sideOf Z s) n (side-within proper s)
+        sum-map (λ p. tripleAreaOf l (union n p c)) (λ i. dropped n i S) (sideOf Z s) ∙ sum-within (λ i. tripleAreaOf l (union n (dropped n i S) c)) (sideOf Z s) n (side-within proper s)
         ∙ tally-same _ _ n (λ i k. at i (isOn i (sideOf Z s)) refl ∙ ap (λ (b : Bool). cond b (natAbs (volume (patchOf l) (dropped n i T))) 0) (h i))
       where
-        at : (i : ℕ) (b : Bool) → isOn i (sideOf Z s) ≡ b → cond b (sizeOf l (union n (dropped n i S) c)) 0 ≡ cond b (natAbs (volume (patchOf l) (dropped n i T))) 0
+        at : (i : ℕ) (b : Bool) → isOn i (sideOf Z s) ≡ b → cond b (tripleAreaOf l (union n (dropped n i S) c)) 0 ≡ cond b (natAbs (volume (patchOf l) (dropped n i T))) 0
         at i true e = cone-size i (side-inside proper s i e)
         at i false e = refl
 
-    pub cone-balanced : sumOf (λ p. sizeOf l (union n p c)) (piecesOf n Z (Z .plus)) ≡ sumOf (λ p. sizeOf l (union n p c)) (piecesOf n Z (Z .minus))
+    pub cone-balanced : sumOf (λ p. tripleAreaOf l (union n p c)) (piecesOf n Z (Z .plus)) ≡ sumOf (λ p. tripleAreaOf l (union n p c)) (piecesOf n Z (Z .minus))
     cone-balanced =
         side-sum plus isPlus (λ i. reflects-agree (reflects-iff (side-sign proper plus (inl refl) i) (reflects-on i (Z .plus))) (is-plus (signIn Z i)))
         ∙ circuit-balanced n (patchOf l) (signIn Z) (circuit-published l ok z zl) T (union-within n S c) (λ i k. on-T i)

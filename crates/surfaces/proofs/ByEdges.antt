@@ -54,7 +54,7 @@ use Rattle.triples.proofs.RankLaws.{triple-at-within, rank-of-triple, triple-of
 use Rattle.triples.proofs.SiftLaws.{none-words, none-member}
 use Rattle.lists.proofs.ByWords.{room, on-ranked, member-holders}
 use Rattle.surfaces.specs.Placing.{firstOff, beginOf, thirdIn, loneThird, opposed, visible, withEdge}
-use Rattle.surfaces.proofs.Agreement.{listed-decided}
+use Rattle.lists.proofs.Agreement.{listed-decided}
 
 -- ---- the triple of three shots
 

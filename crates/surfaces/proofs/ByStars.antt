@@ -27,10 +27,10 @@ use Rattle.algebra.proofs.BitLaws.{mask-below, bit-mask}
 use Rattle.algebra.proofs.UnionLaws.{mask-union, bit-union}
 use Rattle.shots.specs.Sizes.{shotsMost, maskBits}
 use Rattle.shots.specs.Patch.{countOf}
-use Rattle.circuits.specs.Sides.{Circuit, masks}
-use Rattle.circuits.specs.Numbered.{circuitsOf}
+use Rattle.circuits.specs.Sides.{TwoSides, masks}
+use Rattle.circuits.specs.Numbering.{circuitsOf}
 use Rattle.circuits.specs.Calls.{circuitAt}
-use Rattle.circuits.proofs.Sources.{three-within, four-within, Source, from3, from4, shots}
+use Rattle.circuits.proofs.Sources.{three-within, four-within, Source, from3, from4, shots, source-at}
 use Rattle.triples.specs.Sizes.{wordCount}
 use Rattle.triples.specs.Ranks.{tripleCount, tripleAt}
 use Rattle.lists.specs.Tests.{isFlat, someFlat}
@@ -38,7 +38,7 @@ use Rattle.triples.proofs.RankLaws.{triple-at-within}
 use Rattle.lists.proofs.ByWords.{both-some, on-ranked}
 use Rattle.surfaces.specs.Flips.{supportOf, piecesOf, supports, exchanged, flippedOf}
 use Rattle.surfaces.specs.Stars.{starOf, supportedBy, turnedBy, foundBy, flippedBy}
-use Rattle.surfaces.proofs.Agreement.{sideOf, Proper, support-within, side-within, side-inside, support-shots, source-at, numbered}
+use Rattle.surfaces.proofs.Agreement.{sideOf, Proper, support-within, side-within, side-inside, support-shots, numbered}
 use Rattle.surfaces.proofs.StarLinks.{PartOf, Over, supported-by, turned-by}
 
 -- ---- the shots of a circuit, and the triples of a list
@@ -48,7 +48,7 @@ module _ (l : List ℤ) where
   triple-of : (r i : ℕ) → On (tripleAt (countOf l) r) i → (r < tripleCount (countOf l)) × Within 0 (tripleAt (countOf l) r) (countOf l) × (length (tripleAt (countOf l) r) ≡ 3)
   triple-of r i o = let h = on-ranked (countOf l) r i o in let t = triple-at-within (countOf l) r h in (h, t .0, t .1)
 
-  pub none-holds : {z : Circuit} (k : Source l z) (w : List ℕ) → someFlat l w ≡ false → (r : ℕ) → member w r ≡ true → ((i : ℕ) → On (shots l k) i → On (tripleAt (countOf l) r) i) → ⊥
+  pub none-holds : {z : TwoSides} (k : Source l z) (w : List ℕ) → someFlat l w ≡ false → (r : ℕ) → member w r ≡ true → ((i : ℕ) → On (shots l k) i → On (tripleAt (countOf l) r) i) → ⊥
   unfolding someFlat isFlat isOn
   none-holds (from3 t h) w f r m g =
       let q = triple-of r (t .a) (g (t .a) (rw (eq-eqb (t .a) (t .a) refl) refl)) in
@@ -76,7 +76,7 @@ module _ (l : List ℤ) (few : countOf l ≤ shotsMost) (z : ℕ) (low : z < len
   abbrev n : ℕ
   n = countOf l
 
-  abbrev Z : Circuit
+  abbrev Z : TwoSides
   Z = circuitAt l z
 
   proper : Proper (countOf l) (circuitAt l z)

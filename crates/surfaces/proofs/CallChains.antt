@@ -18,7 +18,7 @@ use Rattle.shots.specs.Tests.{refusalOf}
 use Rattle.shots.proofs.Patch.{patch-few}
 use Rattle.shots.proofs.Chains.{shots-refused, shots-passed}
 use Rattle.circuits.specs.Sides.{masks}
-use Rattle.circuits.specs.Numbered.{circuitsOf}
+use Rattle.circuits.specs.Numbering.{circuitsOf}
 use Rattle.circuits.specs.Calls.{circuitAt, circuitRule}
 use Rattle.triples.specs.Sizes.{wordCount}
 use Rattle.lists.specs.Tests.{listRules, listRefusalOf}

@@ -2,7 +2,7 @@
 --
 --   gathered k c f i    in k words, the numbers that pass c and, for some j below i, the test f at j
 --   gathered-none, gathered-in, gathered-out, gathered-end    where such a loop begins, a turn that adds what passes, one with nothing to add, where it ends
---   less-reached        taking out what is in t and u is taking out t, where u has all that is in t and in the list
+--   less-covered        taking out what is in t and u is taking out t, where u has all that is in t and in the list
 use mathlib.Core.Path.{_≡_, refl, sym, _∙_, ap}
 use mathlib.Core.Bool.{Bool, true, false, not, _||_, _&&_, or-false, and-false, and-or-distrib-left}
 use mathlib.Core.List.{List}
@@ -45,15 +45,15 @@ module _ (k : ℕ) (c : ℕ → Bool) (f : ℕ → ℕ → Bool) where
   pub gathered-end : (i m : ℕ) {t : List ℕ} → i ≤ m → m ≤ i → t ≡ gathered k c f i → t ≡ gathered k c f m
   gathered-end i m h l p = p ∙ ap (gathered k c f) (let e : i ≡ m = omega arith in e)
 
-pub less-reached : (k : ℕ) (t u w : List ℕ) → Words k t → insideOf (bothOf t w) u ≡ true → lessOf w (bothOf t u) ≡ lessOf w t
+pub less-covered : (k : ℕ) (t u w : List ℕ) → Words k t → insideOf (bothOf t w) u ≡ true → lessOf w (bothOf t u) ≡ lessOf w t
 unfolding lessOf
-less-reached k t u w v h =
+less-covered k t u w v h =
     sift-same (length w) (λ r. member w r && not (member (bothOf t u) r)) (λ r. member w r && not (member t r)) (λ r l. go r (member t r) (member w r) refl refl)
   where
-    reach : (r : ℕ) → member t r ≡ true → member w r ≡ true → member u r ≡ true
-    reach r p q = reflects-yes (inside-at k (bothOf t w) u (both-words k t w v)) h r (both-member k t w v r ∙ rw (p, q) refl)
+    covered : (r : ℕ) → member t r ≡ true → member w r ≡ true → member u r ≡ true
+    covered r p q = reflects-yes (inside-at k (bothOf t w) u (both-words k t w v)) h r (both-member k t w v r ∙ rw (p, q) refl)
 
     go : (r : ℕ) (a b : Bool) → member t r ≡ a → member w r ≡ b → (member w r && not (member (bothOf t u) r)) ≡ (member w r && not (member t r))
-    go r true true p q = rw (both-member k t u v r, p, q, reach r p q) refl
+    go r true true p q = rw (both-member k t u v r, p, q, covered r p q) refl
     go r false b p q = rw (both-member k t u v r, p) refl
     go r true false p q = rw q refl

@@ -98,13 +98,13 @@ module _ (n x : ℕ) (few : n ≤ shotsMost) (low : x < 2 ^ n) (four : ones x �
 
     unreached : (r : ℕ) → member (linkedOf n x (starOf n a x) w) r ≡ true → ⊥
     unfolding linkedOf
-    unreached r m = none r (sym (sift-all wordCount (λ q. any n (reach q)) (λ q h. absurd (none q h)) r) ∙ m)
+    unreached r m = none r (sym (sift-all wordCount (λ q. any n (linking q)) (λ q h. absurd (none q h)) r) ∙ m)
       where
-        reach : ℕ → ℕ → Bool
-        reach q k = linkedAt n x (starOf n a x) w k && isOn k (tripleAt n q)
+        linking : ℕ → ℕ → Bool
+        linking q k = linkedAt n x (starOf n a x) w k && isOn k (tripleAt n q)
 
-        none : (q : ℕ) → any n (reach q) ≡ true → ⊥
-        none q h = let p = any-some (reach q) n h in true≢false (sym (and-parts (linkedAt n x t w (p .0)) (isOn (p .0) (tripleAt n q)) (p .2) .0) ∙ unlinked (p .0))
+        none : (q : ℕ) → any n (linking q) ≡ true → ⊥
+        none q h = let p = any-some (linking q) n h in true≢false (sym (and-parts (linkedAt n x t w (p .0)) (isOn (p .0) (tripleAt n q)) (p .2) .0) ∙ unlinked (p .0))
 
     side-unsupported : insideOf (starOf n a x) w ≡ false → supportedBy n x (starOf n a x) w ≡ false
     unfolding supportedBy

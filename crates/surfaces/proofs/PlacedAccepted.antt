@@ -30,9 +30,9 @@ use Rattle.shots.specs.Coordinates.{pointOf, areaOf}
 use Rattle.shots.specs.Patch.{countOf, orientOf}
 use Rattle.shots.specs.Tests.{refusalOf}
 use Rattle.triples.specs.Sizes.{wordCount}
+use Rattle.lists.specs.Lines.{Accepted}
 use Rattle.lists.proofs.Agreement.{listed-triple}
 use Rattle.surfaces.specs.Placing.{firstOff, beginOf, thirdIn, placeShot, placeNext, placedOf}
-use Rattle.surfaces.specs.Lines.{Accepted}
 use Rattle.surfaces.proofs.ByEdges.{first-off-low}
 use Rattle.surfaces.proofs.PlacedWords.{so-far-words}
 use Rattle.surfaces.proofs.PlacedLists.{begin-listed, placed-past}

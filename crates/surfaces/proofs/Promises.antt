@@ -1,11 +1,12 @@
 -- What the public calls of this room promise.
 --
---   accepted-decided                 the test of a list decides that it is a triangulation of the patch with nothing past the last rank
 --   flip-refuses, placing-refuses    a refusal number exactly when its line is the first that holds
 --   flip-gives, placing-gives        the list exactly when no line holds
 --   flipped-accepted                 where an accepted list supports a side of a circuit, its flip is accepted: a triangulation of the patch, with nothing past the last rank
 --   flip-accepted, placing-accepted  so is every list given, and no test is needed
 --   flip-published                   a flip is given exactly where the list is accepted and has a published flip, and it is that flip
+--   flip-along                       the same along any published circuit of the patch, at its number, whichever side is called plus
+--   flip-any                         from an accepted list, some number gives a list exactly where a published flip along some published circuit leads to it, with nothing past the last rank
 --   not-both-sides                   an accepted list supports the pieces of at most one side
 --   put-in-new-here                  what a flip puts in was not in the list
 --   flip-words, placing-words        the list given has as many words
@@ -15,72 +16,66 @@
 --
 -- That the pieces, links and stars are the published ones: proofs/Agreement. Source: document 01, "Flips", "The placing surface".
 use mathlib.Core.Path.{_≡_, refl, sym, _∙_, subst}
-use mathlib.Core.Logic.{inl, inr, ⊎-elim, _↔_}
+use mathlib.Core.Logic.{_⊎_, inl, inr, ⊎-elim, _↔_}
 use mathlib.Core.Bool.{Bool, true, false, not, cond, _||_, false≢true}
 use mathlib.Core.List.{List, [], _∷_, _++_}
 use Prim.Native.Nat.{ℕ, _*_, _≤_, _<_}
 use native.Mathlib.Omega.{arith}
 use native.Mathlib.Decide.{decLt}
-use lib.Dec.{eqb}
 use lib.ListN.{length, List·getD-eq-default}
 use lib.IntN.{ℤ}
-use Rattle.algebra.specs.Answer.{Answer, gives, refuses, refusal, Line, First, Clear, Reflects, holds, fails, Decides}
+use Rattle.algebra.specs.Answer.{Answer, gives, refuses, Line, First, Clear, Reflects, holds, fails, Decides}
 use Rattle.algebra.specs.Loops.{anyOf}
 use Rattle.algebra.specs.Sets.{isOn}
 use Rattle.algebra.specs.Sign.{Sign, minus, nought, plus, opposite, Side}
 use Rattle.algebra.specs.Words.{wordBits, Words, member}
-use Rattle.algebra.proofs.AnswerLaws.{one-answer, chain-refuses, chain-gives, chain-refuses-upon, chain-gives-upon, clear-refusal, decides-append, clear-append}
-use Rattle.algebra.proofs.AnswerLaws.{reflects-yes, reflects-true, reflects-false, reflects-iff, reflects-not, reflects-or, reflects-eqb, reflects-leb}
-use Rattle.algebra.proofs.SignLaws.{plus-nought, minus-nought, other-side, nought-side}
+use Rattle.algebra.proofs.AnswerLaws.{one-answer, chain-refuses, chain-gives, chain-refuses-upon, chain-gives-upon, decides-append, clear-append}
+use Rattle.algebra.proofs.AnswerLaws.{reflects-yes, reflects-true, reflects-false, reflects-iff, reflects-not, reflects-or, reflects-leb}
+use Rattle.algebra.proofs.SignLaws.{plus-nought, minus-nought, opposite-opposite, other-side, nought-side}
 use Rattle.algebra.proofs.WordLaws.{member-past}
+use Rattle.matroid.specs.Circuits.{SignVector, Circuit, Alike, against}
+use Rattle.matroid.specs.Triangulations.{Family}
 use Rattle.matroid.specs.Flips.{Supports, Flip, Flipped}
-use Rattle.matroid.proofs.FlipLaws.{not-both, put-in-new, flip-back}
+use Rattle.matroid.proofs.FlipLaws.{not-both, put-in-new, flip-back, flipped-alike, flipped-against}
 use Rattle.matroid.proofs.FlipTriangulates.{flip-triangulates}
+use Rattle.shots.specs.Coordinates.{patchOf}
 use Rattle.shots.specs.Patch.{countOf}
 use Rattle.shots.specs.Tests.{shotRules, refusalOf}
 use Rattle.shots.specs.Lines.{shotLines}
 use Rattle.shots.proofs.Patch.{patch-few, patch-distinct}
-use Rattle.shots.proofs.Promises.{shots-decided}
-use Rattle.circuits.specs.Sides.{Circuit, signIn}
-use Rattle.circuits.specs.Numbered.{circuitsOf}
+use Rattle.shots.proofs.Promises.{shots-decided, shots-kept}
+use Rattle.circuits.specs.Sides.{TwoSides, signIn}
+use Rattle.circuits.specs.Numbering.{circuitsOf}
 use Rattle.circuits.specs.Lines.{NotCircuit}
-use Rattle.circuits.specs.Calls.{circuitAt}
+use Rattle.circuits.specs.Calls.{circuitAt, signsOf, NumberOf}
 use Rattle.circuits.proofs.Agreement.{circuit-published}
+use Rattle.circuits.proofs.Promises.{number-signs, circuit-given}
 use Rattle.triples.specs.Sizes.{wordCount}
 use Rattle.triples.specs.Ranks.{tripleCount, tripleAt}
-use Rattle.lists.specs.Tests.{listRules, listRefusalOf}
-use Rattle.lists.specs.Lines.{Listed, PastLast, listLines}
+use Rattle.lists.specs.Tests.{listRules}
+use Rattle.lists.specs.Lines.{Listed, PastLast, listLines, Accepted}
 use Rattle.triples.proofs.RankLaws.{triples-few}
-use Rattle.lists.proofs.Agreement.{list-decided, accepted-iff-triangulation}
-use Rattle.lists.proofs.Promises.{shots-kept}
+use Rattle.lists.proofs.Agreement.{listed-at, list-decided, accepted-iff-triangulation}
 use Rattle.surfaces.specs.Flips.{piecesOf, someLink, supports, joins, exchanged, flippedOf}
 use Rattle.surfaces.specs.Placing.{placedOf}
-use Rattle.surfaces.specs.Lines.{Accepted, signsOf, NoFlip, flipLines}
+use Rattle.surfaces.specs.Lines.{NoFlip, flipLines}
 use Rattle.surfaces.specs.Calls.{readSurface, placingOf, noFlip, flipRules, flipOf}
 use Rattle.surfaces.specs.declared.Surface.{Surface}
 use Rattle.surfaces.specs.declared.Surface.the-variants as S
-use Rattle.surfaces.proofs.Agreement.{sideOf, swapped, numbered, listed-at, supports-published, star-published, star-dec}
+use Rattle.surfaces.proofs.Agreement.{sideOf, swapped, numbered, supports-published, star-published, star-dec}
 use Rattle.surfaces.proofs.Agreement.{flip-published-side, exchanged-words, exchanged-past, one-flip}
 use Rattle.surfaces.proofs.PlacedWords.{placed-words}
 use Rattle.surfaces.proofs.PlacedAccepted.{placed-accepted}
 
 -- ---- the rules decide the lines
 
-module _ (l : List ℤ) (ok : refusalOf l ≡ 0) (w : List ℕ) where
-  pub accepted-decided : Reflects (Accepted l w) (eqb (listRefusalOf l w) 0)
-  unfolding listRefusalOf
-  accepted-decided =
-      let c = clear-refusal (listRules l w) (listLines l w) (omega arith, (omega arith, (omega arith, (omega arith, tt)))) (list-decided l w ok) in
-      let a = accepted-iff-triangulation l w in
-      reflects-iff (λ e. a .0 (c .0 e), λ h. c .1 (a .1 h)) (reflects-eqb (refusal (listRules l w)) 0)
-
 -- a circuit without shots has no pieces
-none-supported : (n : ℕ) (w : List ℕ) (x : Circuit) → x ≡ record { plus = []; minus = [] }
+none-supported : (n : ℕ) (w : List ℕ) (x : TwoSides) → x ≡ record { plus = []; minus = [] }
     → Reflects ((Supports n (Listed n w) (signIn x) plus → ⊥) × (Supports n (Listed n w) (signIn x) minus → ⊥)) (not (supports n w (piecesOf n x (x .plus)) || supports n w (piecesOf n x (x .minus))))
 unfolding supports someLink anyOf piecesOf signIn isOn
 none-supported n w x e = subst Q (sym e) (holds (λ h. plus-nought (sym (h .some .2 .2)), λ h. minus-nought (sym (h .some .2 .2))))
   where
-    Q : Circuit → Type 0
+    Q : TwoSides → Type 0
     Q x = Reflects ((Supports n (Listed n w) (signIn x) plus → ⊥) × (Supports n (Listed n w) (signIn x) minus → ⊥)) (not (supports n w (piecesOf n x (x .plus)) || supports n w (piecesOf n x (x .minus))))
 
 no-flip-decided : (l : List ℤ) (w : List ℕ) (z : ℕ) → Reflects (NoFlip l w z) (noFlip l w (circuitAt l z) .broken)
@@ -99,7 +94,7 @@ module _ (l : List ℤ) (w : List ℕ) (z : ℕ) where
 
   flip-decided : Clear (shotLines l) → Decides (listRules l w ++ flipRules l w z) (listLines l w ++ ownLines)
   flip-decided h =
-      decides-append (listRules l w) (flipRules l w z) (listLines l w) ownLines (list-decided l w (shots-kept l h)) (refl, reflects-leb (length (circuitsOf l)) z, (refl, no-flip-decided l w z, tt))
+      decides-append (listRules l w) (flipRules l w z) (listLines l w) ownLines (list-decided l w (shots-kept l .0 h)) (refl, reflects-leb (length (circuitsOf l)) z, (refl, no-flip-decided l w z, tt))
 
   pub flip-refuses : (n : ℕ) → (flipOf l w z ≡ refuses n) ↔ First n (flipLines l w z)
   unfolding flipOf
@@ -126,7 +121,7 @@ module _ (l : List ℤ) where
   placing-gives w = chain-gives (shotRules l) (shotLines l) (placedOf l) w (shots-decided l)
 
   pub placing-accepted : (w : List ℕ) → placingOf l ≡ gives w → Accepted l w
-  placing-accepted w e = let (c, f) = placing-gives w .0 e in subst (Accepted l) f (placed-accepted l (shots-kept l c))
+  placing-accepted w e = let (c, f) = placing-gives w .0 e in subst (Accepted l) f (placed-accepted l (shots-kept l .0 c))
 
   pub placing-words : (w : List ℕ) → placingOf l ≡ gives w → Words wordCount w
   placing-words w e = subst (Words wordCount) (placing-gives w .0 e .1) (placed-words l)
@@ -134,7 +129,7 @@ module _ (l : List ℤ) where
 -- ---- the published flip
 
 -- what each of the two exchanges has
-flipped-either : (Q : List ℕ → Type 0) (n : ℕ) (w : List ℕ) (x : Circuit) → ((ps qs : List (List ℕ)) → Q (exchanged n w ps qs)) → Q (flippedOf n w x)
+flipped-either : (Q : List ℕ → Type 0) (n : ℕ) (w : List ℕ) (x : TwoSides) → ((ps qs : List (List ℕ)) → Q (exchanged n w ps qs)) → Q (flippedOf n w x)
 unfolding flippedOf
 flipped-either Q n w x h = go (supports n w (piecesOf n x (x .plus)))
   where
@@ -218,7 +213,7 @@ module _ (l : List ℤ) where
     flip-accepted size e =
         let (c, f) = flip-gives l w z w′ .0 e in
         let (c₁, c₂, (x, (y, _))) = flip-clear l w z .0 c in
-        subst (Accepted l) f (flipped-accepted (shots-kept l c₁) w (accepted-iff-triangulation l w .0 c₂) z (below x) size y)
+        subst (Accepted l) f (flipped-accepted (shots-kept l .0 c₁) w (accepted-iff-triangulation l w .0 c₂) z (below x) size y)
 
     pub flip-words : length w ≡ wordCount → flipOf l w z ≡ gives w′ → Words wordCount w′
     flip-words size e = subst (Words wordCount) (flip-gives l w z w′ .0 e .1) (flipped-words w z size)
@@ -236,7 +231,7 @@ module _ (l : List ℤ) where
             let (c, f) = flip-gives l w z w′ .0 e in
             let (c₁, c₂, (x, (y, _))) = flip-clear l w z .0 c in
             let a : Accepted l w = accepted-iff-triangulation l w .0 c₂ in
-            let flipped = some-flipped (shots-kept l c₁) w a z (below x) (v .0) y in
+            let flipped = some-flipped (shots-kept l .0 c₁) w a z (below x) (v .0) y in
             (c₁, a, below x, subst (λ (u : List ℕ). Flipped n (Listed n w) (signsOf l z) (Listed n u)) f flipped, flip-accepted (v .0) e .0)
 
         out : Leads → flipOf l w z ≡ gives w′
@@ -250,8 +245,30 @@ module _ (l : List ℤ) where
             supported-one (inr g) m = m .1 (g .supported)
 
             is : Flipped n (Listed n w) (signsOf l z) (Listed n w′) → flippedOf n w (circuitAt l z) ≡ w′
-            is (inl g) = flipped-is (shots-kept l c) w a z h (v .0) plus (inl refl) w′ v′ k g
-            is (inr g) = flipped-is (shots-kept l c) w a z h (v .0) minus (inr refl) w′ v′ k g
+            is (inl g) = flipped-is (shots-kept l .0 c) w a z h (v .0) plus (inl refl) w′ v′ k g
+            is (inr g) = flipped-is (shots-kept l .0 c) w a z h (v .0) minus (inr refl) w′ v′ k g
+
+  -- ---- along any published circuit
+
+  -- a flip goes by the signs, whichever side is called plus
+  flipped-signs : {T T′ : Family} (X Y : SignVector) → Alike n X Y ⊎ Alike n X (against Y) → Flipped n T X T′ ↔ Flipped n T Y T′
+  flipped-signs X Y (inl a) = (flipped-alike a, flipped-alike (λ i k. sym (a i k)))
+  flipped-signs X Y (inr a) = (λ f. flipped-alike (λ i _. opposite-opposite (Y i)) (flipped-against (flipped-alike a f)), λ f. flipped-alike (λ i k. sym (a i k)) (flipped-against f))
+
+  pub flip-along : (w w′ : List ℕ) (X : SignVector) (z : ℕ) → NumberOf l X z → Words wordCount w → Words wordCount w′
+      → (flipOf l w z ≡ gives w′) ↔ (Clear (shotLines l) × Accepted l w × Flipped n (Listed n w) X (Listed n w′) × (PastLast l w′ → ⊥))
+  flip-along w w′ X z x v v′ =
+      let (h, a) = number-signs l X z x in
+      let s = flipped-signs {T = Listed n w} {T′ = Listed n w′} X (signsOf l z) a in
+      let p = flip-published w w′ z v v′ in
+      (λ e. let (c, b, _, f, k) = p .0 e in (c, b, s .1 f, k), λ (c, b, f, k). p .1 (c, b, h, s .0 f, k))
+
+  pub flip-any : Clear (shotLines l) → (w w′ : List ℕ) → Accepted l w → Words wordCount w → Words wordCount w′
+      → ((z : ℕ) × (flipOf l w z ≡ gives w′)) ↔ ((X : SignVector) × Circuit n (patchOf l) X × Flipped n (Listed n w) X (Listed n w′) × (PastLast l w′ → ⊥))
+  flip-any c w w′ a v v′ = (
+    λ (z, e). let (_, _, h, f, k) = flip-published w w′ z v v′ .0 e in (signsOf l z, circuit-published l (shots-kept l .0 c) z h, f, k),
+    λ (X, x, f, k). let (z, g, _) = circuit-given l c X x in (z, flip-along w w′ X z g v v′ .1 (c, a, f, k)),
+  )
 
   pub flip-back-again : (w w′ : List ℕ) (z : ℕ) → Words wordCount w → flipOf l w z ≡ gives w′ → flipOf l w′ z ≡ gives w
   unfolding opposite
@@ -260,7 +277,7 @@ module _ (l : List ℤ) where
       let a′ = flip-accepted w w′ z (v .0) e in
       let (c, a, h, f, _) = flip-published w w′ z v v′ .0 e in
       let back : (s : Sign) → Side s → Flip n (Listed n w) (signsOf l z) s (Listed n w′) → Flip n (Listed n w′) (signsOf l z) (opposite s) (Listed n w)
-      = λ s d. flip-back (a .1) (a′ .1) (circuit-published l (shots-kept l c) z h) d (star-dec (numbered l z h) w s s d d) in
+      = λ s d. flip-back (a .1) (a′ .1) (circuit-published l (shots-kept l .0 c) z h) d (star-dec (numbered l z h) w s s d d) in
       flip-published w′ w z v′ v .1 (c, a′, h, ⊎-elim (λ g. inr (back plus (inl refl) g)) (λ g. inl (back minus (inr refl) g)) f, a .0)
 
 -- ---- one answer

@@ -25,7 +25,8 @@ use Rattle.shots.specs.Sizes.{shotsMost}
 use Rattle.triples.specs.Sizes.{wordCount}
 use Rattle.triples.specs.Ranks.{tripleCount, tripleAt}
 use Rattle.lists.proofs.ByWords.{room, on-ranked}
-use Rattle.surfaces.specs.Flips.{listed, completions, completes, someLink, mixedLinks, supports, joins, exchanged}
+use Rattle.lists.specs.Tests.{listed}
+use Rattle.surfaces.specs.Flips.{completions, completes, someLink, mixedLinks, supports, joins, exchanged}
 use Rattle.surfaces.specs.Stars.{starOf, coneOf, linkedAt, linkedOf, supportedBy, turnedBy}
 use Rattle.surfaces.proofs.StarLaws.{star-pieces, star-words, cone-at, cone-words, Rest, Joined, joined-one, joined-on, joined-at, joined-missing, joined-from, rest-of}
 
@@ -182,12 +183,12 @@ module _ (n x : ℕ) (s w : List ℕ) (v : Over n x s w) where
     unfolding linkedOf
     linked-at r =
         subst (Reflects ((k : ℕ) × (k < n) × (Link k × On (tripleAt n r) k)))
-        (sym (sift-all wordCount (λ q. any n (reach q)) (λ q h. let p = any-some (reach q) n h in
+        (sym (sift-all wordCount (λ q. any n (linking q)) (λ q h. let p = any-some (linking q) n h in
         omega (arith, room n (v .few), on-ranked n q (p .0) (and-parts (linkedAt n x (starOf n y x) w (p .0)) (isOn (p .0) (tripleAt n q)) (p .2) .1))) r))
-        (reflects-any (λ k. Link k × On (tripleAt n r) k) (reach r) n (λ k l. reflects-and (link-at k) (reflects-on k (tripleAt n r))))
+        (reflects-any (λ k. Link k × On (tripleAt n r) k) (linking r) n (λ k l. reflects-and (link-at k) (reflects-on k (tripleAt n r))))
       where
-        reach : ℕ → ℕ → Bool
-        reach q k = linkedAt n x (starOf n y x) w k && isOn k (tripleAt n q)
+        linking : ℕ → ℕ → Bool
+        linking q k = linkedAt n x (starOf n y x) w k && isOn k (tripleAt n q)
 
     -- a shot outside the circuit is in the rest
     in-rest : (i : ℕ) → On a i → (c : List ℕ) → Rest n s c → (r : ℕ) → Joined n s i c r → (k : ℕ) → (On s k → ⊥) → On (tripleAt n r) k → On c k

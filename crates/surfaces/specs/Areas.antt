@@ -1,9 +1,9 @@
 -- The double area of a list: that of its triples, summed.
 --
---   sizeOf l s        the double area of the triple s
---   areaSumOf l w     the double areas of the triples of the list w, summed
+--   tripleAreaOf l s   the double area of the triple s
+--   areaSumOf l w      the double areas of the triples of the list w, summed
 --
--- Theorem: proofs/AreaKept (`flip-keeps-area`). Source: document 01, "Shots and orientation", "The square with its centre".
+-- src/areas.rt sums it; theorem: proofs/AreaKept (`flip-keeps-area`). Source: document 01, "Shots and orientation", "The square with its centre".
 use mathlib.Core.Bool.{cond}
 use mathlib.Core.List.{List, [], _∷_}
 use Prim.Native.Nat.{ℕ}
@@ -14,11 +14,11 @@ use Rattle.shots.specs.Coordinates.{areaOf}
 use Rattle.shots.specs.Patch.{countOf}
 use Rattle.triples.specs.Ranks.{tripleCount, tripleAt}
 
-unfoldable pub sizeOf : List ℤ → List ℕ → ℕ
-sizeOf l [] = 0
-sizeOf l (i ∷ []) = 0
-sizeOf l (i ∷ j ∷ []) = 0
-sizeOf l (i ∷ j ∷ k ∷ s) = natAbs (areaOf l i j k)
+unfoldable pub tripleAreaOf : List ℤ → List ℕ → ℕ
+tripleAreaOf l [] = 0
+tripleAreaOf l (i ∷ []) = 0
+tripleAreaOf l (i ∷ j ∷ []) = 0
+tripleAreaOf l (i ∷ j ∷ k ∷ s) = natAbs (areaOf l i j k)
 
 unfoldable pub areaSumOf : List ℤ → List ℕ → ℕ
-areaSumOf l w = tally (tripleCount (countOf l)) (λ r. cond (member w r) (sizeOf l (tripleAt (countOf l) r)) 0)
+areaSumOf l w = tally (tripleCount (countOf l)) (λ r. cond (member w r) (tripleAreaOf l (tripleAt (countOf l) r)) 0)

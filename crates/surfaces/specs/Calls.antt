@@ -3,6 +3,7 @@
 --   readSurface      the refusal number or the words of each case of an answer
 --   placingOf l      the placing surface; or 1-4
 --   flipOf l w z     the list flipped along circuit z; or 1-4, 7 10 8 9, 12 13
+--   noFlip l w z     13: neither side's pieces are supported; `flipRules l w z`: 12 13
 --
 -- That every list given is a triangulation of the patch, with no test of it: proofs/Promises. Source: document 01, "The placing surface", "Flips".
 use mathlib.Core.Bool.{not, _||_}
@@ -12,7 +13,7 @@ use lib.IntN.{ℤ}
 use Rattle.algebra.specs.Answer.{Answer, gives, refuses, Rule, chain}
 use Rattle.shots.specs.Patch.{countOf}
 use Rattle.shots.specs.Tests.{shotRules}
-use Rattle.circuits.specs.Sides.{Circuit}
+use Rattle.circuits.specs.Sides.{TwoSides}
 use Rattle.circuits.specs.Calls.{circuitAt, circuitRule}
 use Rattle.triples.specs.Sets.{wordsOf}
 use Rattle.lists.specs.Tests.{listRules}
@@ -29,7 +30,7 @@ unfoldable pub placingOf : List ℤ → Answer (List ℕ)
 placingOf l = chain (shotRules l) (placedOf l)
 
 -- 13: neither side's pieces are supported
-abbrev pub noFlip : List ℤ → List ℕ → Circuit → Rule
+abbrev pub noFlip : List ℤ → List ℕ → TwoSides → Rule
 noFlip l w z = record { number = 13; broken = not (supports (countOf l) w (piecesOf (countOf l) z (z .plus)) || supports (countOf l) w (piecesOf (countOf l) z (z .minus))) }
 
 abbrev pub flipRules : List ℤ → List ℕ → ℕ → List Rule

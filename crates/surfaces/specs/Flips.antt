@@ -1,6 +1,5 @@
 -- The flip of a list along a circuit, by its pieces and their links, as functions that compute. A set of shots is the increasing list of its numbers.
 --
---   listed n w t          t is a triple of the list w
 --   supportOf n z         the shots of the circuit z
 --   piecesOf n z a        the shots of z without one shot of the side a, each in turn
 --   completions n p       the shot sets that could make a triple of the piece p: as many shots as it lacks
@@ -18,19 +17,17 @@ use mathlib.Core.List.{List, map}
 use Prim.Native.Nat.{ℕ, _-_}
 use lib.Dec.{ltb}
 use lib.ListN.{length}
-use Rattle.algebra.specs.Loops.{any, anyOf}
+use Rattle.algebra.specs.Loops.{anyOf}
 use Rattle.algebra.specs.Sets.{sameList, union, dropped, setsOf}
 use Rattle.algebra.specs.Words.{member, sift}
-use Rattle.circuits.specs.Sides.{Circuit}
+use Rattle.circuits.specs.Sides.{TwoSides}
 use Rattle.triples.specs.Ranks.{tripleCount, tripleAt}
+use Rattle.lists.specs.Tests.{listed}
 
-unfoldable pub listed : ℕ → List ℕ → List ℕ → Bool
-listed n w t = any (tripleCount n) (λ r. member w r && sameList (tripleAt n r) t)
-
-unfoldable pub supportOf : ℕ → Circuit → List ℕ
+unfoldable pub supportOf : ℕ → TwoSides → List ℕ
 supportOf n z = union n (z .plus) (z .minus)
 
-unfoldable pub piecesOf : ℕ → Circuit → List ℕ → List (List ℕ)
+unfoldable pub piecesOf : ℕ → TwoSides → List ℕ → List (List ℕ)
 piecesOf n z a = map (λ i. dropped n i (supportOf n z)) a
 
 abbrev pub completions : ℕ → List ℕ → List (List ℕ)
@@ -54,7 +51,7 @@ joins n w ps qs r = ltb r (tripleCount n) && anyOf (λ q. anyOf (λ p. anyOf (λ
 unfoldable pub exchanged : ℕ → List ℕ → List (List ℕ) → List (List ℕ) → List ℕ
 exchanged n w ps qs = sift (length w) (λ r. (member w r && not (joins n w ps ps r)) || joins n w ps qs r)
 
-unfoldable pub flippedOf : ℕ → List ℕ → Circuit → List ℕ
+unfoldable pub flippedOf : ℕ → List ℕ → TwoSides → List ℕ
 flippedOf n w z =
     cond (supports n w (piecesOf n z (z .plus))) (exchanged n w (piecesOf n z (z .plus)) (piecesOf n z (z .minus)))
     (exchanged n w (piecesOf n z (z .minus)) (piecesOf n z (z .plus)))

@@ -1,7 +1,5 @@
 -- The lines of document 01's table of refusals that this room's calls can give, as statements over the published definitions.
 --
---   Accepted l w        the list is a triangulation of the patch: nothing past the last rank, and Theorem 2.1
---   signsOf l z         the signs of circuit z
 --   NoFlip l w z        13: the list supports neither the plus pieces nor the minus pieces of circuit z
 --   flipLines l w z     the table of `flip`; that of `placing` is `shotLines` (shots)
 --
@@ -11,22 +9,12 @@ use Prim.Native.Nat.{ℕ}
 use lib.IntN.{ℤ}
 use Rattle.algebra.specs.Answer.{Line}
 use Rattle.algebra.specs.Sign.{minus, plus}
-use Rattle.matroid.specs.Circuits.{SignVector}
-use Rattle.matroid.specs.Triangulations.{Triangulation}
 use Rattle.matroid.specs.Flips.{Supports}
-use Rattle.shots.specs.Coordinates.{patchOf}
 use Rattle.shots.specs.Patch.{countOf}
 use Rattle.shots.specs.Lines.{shotLines}
-use Rattle.circuits.specs.Sides.{signIn}
 use Rattle.circuits.specs.Lines.{NotCircuit}
-use Rattle.circuits.specs.Calls.{circuitAt}
-use Rattle.lists.specs.Lines.{Listed, PastLast, listLines}
-
-abbrev pub Accepted : List ℤ → List ℕ → Type 0
-Accepted l w = (PastLast l w → ⊥) × Triangulation (countOf l) (patchOf l) (Listed (countOf l) w)
-
-abbrev pub signsOf : List ℤ → ℕ → SignVector
-signsOf l z = signIn (circuitAt l z)
+use Rattle.circuits.specs.Calls.{signsOf}
+use Rattle.lists.specs.Lines.{Listed, listLines}
 
 abbrev pub NoFlip : List ℤ → List ℕ → ℕ → Type 0
 NoFlip l w z = (Supports (countOf l) (Listed (countOf l) w) (signsOf l z) plus → ⊥) × (Supports (countOf l) (Listed (countOf l) w) (signsOf l z) minus → ⊥)

@@ -27,7 +27,7 @@ use Rattle.algebra.specs.Words.{putIn}
 use Rattle.shots.specs.Patch.{countOf, orientOf}
 use Rattle.triples.specs.Sizes.{wordCount}
 use Rattle.triples.specs.Ranks.{rankOf}
-use Rattle.surfaces.specs.Flips.{listed}
+use Rattle.lists.specs.Tests.{listed}
 
 unfoldable pub firstOff : List ℤ → ℕ
 firstOff l = first (countOf l) (λ k. not (isNought (orientOf l 0 1 k)))

@@ -91,15 +91,15 @@ fn exchange(held: &[u64], n: usize, x: u16, star: Triples, other: Triples, list:
     if u16::count_ones(x) == 4 {
         return Turned { found: false, list };
     }
-    let reach = linked(held, n, x, star, list);
-    if !triples::sets::inside(triples::sets::both(star, list), reach) {
+    let cones = linked(held, n, x, star, list);
+    if !triples::sets::inside(triples::sets::both(star, list), cones) {
         return Turned { found: false, list };
     }
     Turned {
         found: true,
         list: triples::sets::either(
-            triples::sets::less(list, triples::sets::both(star, reach)),
-            triples::sets::both(other, reach),
+            triples::sets::less(list, triples::sets::both(star, cones)),
+            triples::sets::both(other, cones),
         ),
     }
 }

@@ -14,6 +14,7 @@ use shots::SHOTS_MOST;
 use triples::Triples;
 use triples::WORDS;
 
+pub mod areas;
 pub mod flips;
 pub mod placed;
 

@@ -1,16 +1,12 @@
--- Laws of what is told of a list: the shots that the list uses, sums over what passes a test.
+-- Laws of what is told of a list.
 --
 --   uses-held     a list uses a shot where it meets the triples that hold it
---   sum-turn      one term more where the test passes
-use mathlib.Core.Path.{_≡_, sym, _∙_, ap}
-use mathlib.Core.Bool.{Bool, cond}
-use Prim.Native.Nat.{ℕ, _+_, _*_, _≤_, _<_}
+use mathlib.Core.Path.{_≡_, sym, _∙_}
+use Prim.Native.Nat.{ℕ, _*_, _≤_, _<_}
 use native.Mathlib.Omega.{arith}
-use Rattle.algebra.specs.Loops.{tally}
 use Rattle.algebra.specs.Sets.{isOn}
 use Rattle.algebra.specs.Words.{wordBits, member, meetsOf}
 use Rattle.algebra.proofs.AnswerLaws.{reflects-agree, reflects-iff}
-use Rattle.algebra.proofs.LoopLaws.{tally-more}
 use Rattle.algebra.proofs.WordLaws.{meets-reflects}
 use Rattle.shots.specs.Sizes.{shotsMost}
 use Rattle.triples.specs.Sizes.{wordCount}
@@ -32,8 +28,3 @@ uses-held n k t h =
   where
     low : (r : ℕ) → r < tripleCount n → r < wordBits * wordCount
     low r l = omega (arith, room n h)
-
-module _ (f : ℕ → Bool) (g : ℕ → ℕ) where
-  pub sum-turn : (r : ℕ) {s s′ : ℕ} {b : Bool}
-      → s ≡ tally r (λ i. cond (f i) (g i) 0) → f r ≡ b → s′ ≡ s + cond b (g r) 0 → s′ ≡ tally (r + 1) (λ i. cond (f i) (g i) 0)
-  sum-turn r {s} e m p = tally-more (λ i. cond (f i) (g i) 0) r e (p ∙ ap (λ (b : Bool). s + cond b (g r) 0) (sym m))

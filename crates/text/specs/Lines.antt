@@ -3,8 +3,8 @@
 --   Put t at s u r       the text s was put at place at of t, which is now u; r is the place behind it
 --   usesOf n w k         shot k is used: a triple of the list w has it
 --   usedOf n w           how many of n shots are used
---   tripleText s         a blank, and the shots of a triple as digits
---   triplesText n w      so for each triple of the list w, in the order of their ranks
+--   tripleText s         a blank, and the shots of a triple as digits; `shotsText s`: the digits
+--   triplesText n w      so for each triple of the list w, in the order of their ranks; `rankText n w r`: for rank r
 --   endLine              the end of a line
 --   patchLine n c b a    the first line: shots, circuits, border pairs, double area
 --   rowLine n p w        a row's line: row, triples, shots used, triples

@@ -1,4 +1,4 @@
--- The sizes of this room; src/lib.rt has the same as constants.
+-- The sizes of this room; src/lib.rt has the words of a list as a constant.
 --
 --   wordCount      the words of a list
 --   triplesMost    the triples of the largest patch

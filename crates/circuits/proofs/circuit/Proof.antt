@@ -14,7 +14,7 @@ use Rattle.shots.specs.Tests.{refusalOf}
 use Rattle.shots.proofs.Patch.{patch-near, patch-few}
 use Rattle.shots.proofs.Chains.{shots-refused, rule-broken, rule-kept}
 use Rattle.circuits.specs.Sizes.{circuitsMost}
-use Rattle.circuits.specs.Numbered.{circuitsOf}
+use Rattle.circuits.specs.Numbering.{circuitsOf}
 use Rattle.circuits.specs.Calls.{circuitRule, circuitCallOf}
 use Rattle.circuits.proofs.FilledLaws.{poured-count, poured-at}
 use Rattle.circuits.proofs.Bounds.{circuits-most}

@@ -5,7 +5,7 @@ use native.Mathlib.Omega.{arith}
 use lib.ListN.{length}
 use borrow.Author.Needs.{needs}
 use Rattle.circuits.specs.Filled.{Filled, filled, pour, Fits}
-use Rattle.circuits.specs.Numbered.{threes, fours, circuitsOf}
+use Rattle.circuits.specs.Numbering.{threes, fours, circuitsOf}
 use Rattle.circuits.proofs.FilledLaws.{pour-append, fits-pour}
 use Rattle.circuits.proofs.Bounds.{all-fit}
 use Rattle.circuits.proofs.core.all.Statement.{statement}

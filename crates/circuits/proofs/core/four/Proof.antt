@@ -5,7 +5,7 @@ use borrow.Author.Needs.{needs}
 use mir.Syntax.{w8}
 use Rattle.algebra.proofs.SizeLaws.{read-back}
 use Rattle.circuits.specs.Filled.{Filled, filled, put}
-use Rattle.circuits.specs.Numbered.{someFlat, four}
+use Rattle.circuits.specs.Numbering.{flatAmong, four}
 use Rattle.circuits.proofs.StepLaws.{none-added, one-room, one-added, flat-test, four-sides}
 use Rattle.circuits.proofs.core.four.Statement.{statement}
 use Rattle.circuits.proofs.core.four.Tie as tie
@@ -15,7 +15,7 @@ abbrev lent : tie.Start → Filled
 lent s = filled (s .args .plus .now) (s .args .minus .now) (s .args .next)
 
 -- what the code's test says of the four shots
-tested : (t : tie.After-some-zero) → let s = t .before .before .before .before .before .before .before in t .some-zero .result ≡ someFlat (s .args .shots .now) (s .args .a) (s .args .b) (s .args .c) (s .args .d)
+tested : (t : tie.After-some-zero) → let s = t .before .before .before .before .before .before .before in t .some-zero .result ≡ flatAmong (s .args .shots .now) (s .args .a) (s .args .b) (s .args .c) (s .args .d)
 tested t =
     let q = t .before in
     let a = q .before .before .before .sign in

@@ -2,7 +2,7 @@
 use borrow.Author.Needs.{needs}
 use mathlib.Core.Path.{refl}
 use Prim.Native.Nat.{_-_, _≤_}
-use Rattle.circuits.specs.Numbered.{foursFrom, fours}
+use Rattle.circuits.specs.Numbering.{foursFrom, fours}
 use Rattle.circuits.specs.Filled.{filled, pour}
 use Rattle.circuits.proofs.FilledLaws.{Pouring, pouring-here, pouring-turn, pouring-end, pouring-lengths}
 use Rattle.circuits.proofs.core.fours.Statement.{statement}

@@ -6,7 +6,7 @@ use borrow.Author.Tests.{eq-eqb, ne-eqb}
 use Rattle.algebra.specs.Sign.{isNought}
 use Rattle.algebra.proofs.SizeLaws.{sign-is-nought}
 use Rattle.shots.specs.Patch.{orientOf}
-use Rattle.circuits.specs.Numbered.{three}
+use Rattle.circuits.specs.Numbering.{three}
 use Rattle.circuits.specs.Filled.{Filled, filled, put}
 use Rattle.circuits.proofs.StepLaws.{none-added, one-room, one-added, three-sides}
 use Rattle.circuits.proofs.core.three.Statement.{statement}

@@ -12,7 +12,7 @@ use Rattle.shots.specs.Sizes.{shotsMost, maskBits}
 use Rattle.shots.specs.Patch.{countOf}
 use Rattle.shots.proofs.Patch.{patch-few}
 use Rattle.circuits.specs.Sizes.{circuitsMost}
-use Rattle.circuits.specs.Numbered.{circuitsOf}
+use Rattle.circuits.specs.Numbering.{circuitsOf}
 use Rattle.circuits.proofs.Bounds.{circuits-most}
 use Rattle.triples.specs.Sizes.{wordCount}
 use Rattle.triples.specs.Sets.{wordsOf}

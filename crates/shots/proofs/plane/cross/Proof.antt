@@ -6,13 +6,13 @@ use mir.Syntax.{w64}
 use mir.Val.{SFits}
 use mir.Facts.{toZ-ofZ}
 use Rattle.algebra.proofs.SizeLaws.{natAbs-sub, mul-size, sfits-size}
-use Rattle.shots.specs.Sizes.{reach}
+use Rattle.shots.specs.Sizes.{farthest}
 use Rattle.shots.proofs.plane.cross.Statement.{statement}
 use Rattle.shots.proofs.plane.cross.Tie as tie
 
 module _ (c : tie.Start) where
-  product : (x y : ℤ) → natAbs x ≤ 2 * reach → natAbs y ≤ 2 * reach → SFits w64 (x *ℤ y)
-  product x y hx hy = sfits-size w64 (x *ℤ y) (omega (arith, mul-size x y (2 * reach) (2 * reach) hx hy))
+  product : (x y : ℤ) → natAbs x ≤ 2 * farthest → natAbs y ≤ 2 * farthest → SFits w64 (x *ℤ y)
+  product x y hx hy = sfits-size w64 (x *ℤ y) (omega (arith, mul-size x y (2 * farthest) (2 * farthest) hx hy))
 
   left : SFits w64 (c .args .p *ℤ c .args .q)
   left = product (c .args .p) (c .args .q) (c .pre .0) (c .pre .1)
@@ -26,8 +26,8 @@ module _ (c : tie.Start) where
       (omega (
         arith,
         natAbs-sub (c .args .p *ℤ c .args .q) (c .args .r *ℤ c .args .s),
-        mul-size (c .args .p) (c .args .q) (2 * reach) (2 * reach) (c .pre .0) (c .pre .1),
-        mul-size (c .args .r) (c .args .s) (2 * reach) (2 * reach) (c .pre .2) (c .pre .3),
+        mul-size (c .args .p) (c .args .q) (2 * farthest) (2 * farthest) (c .pre .0) (c .pre .1),
+        mul-size (c .args .r) (c .args .s) (2 * farthest) (2 * farthest) (c .pre .2) (c .pre .3),
       ))
 
 mul-result : tie.Need-mul-result

@@ -13,7 +13,7 @@ use mir.Syntax.{w64}
 use mir.Val.{SFits, Fits, toZ, ofZ}
 use mir.ValLaws.{toZ-ofZ}
 use Rattle.algebra.proofs.SizeLaws.{natAbs-sub, sfits-size}
-use Rattle.shots.specs.Sizes.{reach}
+use Rattle.shots.specs.Sizes.{farthest}
 use Rattle.shots.proofs.plane.size_of.Statement.{statement}
 use Rattle.shots.proofs.plane.size_of.Tie as tie
 
@@ -25,7 +25,7 @@ pos-size : (x : ℤ) → ltZ x (pos 0) ≡ false → x ≡ pos (natAbs x)
 pos-size (pos n) h = refl
 pos-size (negsuc n) h = cc
 
-small : (x : ℤ) → natAbs x ≤ 8 * reach * reach → SFits w64 (pos 0 -ℤ x)
+small : (x : ℤ) → natAbs x ≤ 8 * farthest * farthest → SFits w64 (pos 0 -ℤ x)
 small x h = sfits-size w64 (pos 0 -ℤ x) (omega (arith, natAbs-sub (pos 0) x))
 
 module _ (s : tie.Start) where

@@ -10,7 +10,7 @@ use mir.Syntax.{w32}
 use Rattle.algebra.specs.Loops.{any}
 use Rattle.algebra.proofs.LoopLaws.{any-none, found, go-on, none}
 use Rattle.algebra.proofs.SizeLaws.{read-back}
-use Rattle.shots.specs.Sizes.{reach}
+use Rattle.shots.specs.Sizes.{farthest}
 use Rattle.shots.specs.Tests.{farAt, someFar}
 use Rattle.shots.proofs.tests.some_far.Statement.{statement}
 use Rattle.shots.proofs.tests.some_far.Tie as tie
@@ -30,7 +30,7 @@ unfolding farAt
 here c =
     let l = c .before .before .before .before .args .shots .now in
     let i = c .before .before .before .loop .i in
-    c .beyond .ensures ∙ ap (λ (z : ℤ). ltb reach (natAbs z)) (read-back w32 (getD l i (pos 0)) (c .before .beyond-arg .given) refl)
+    c .beyond .ensures ∙ ap (λ (z : ℤ). ltb farthest (natAbs z)) (read-back w32 (getD l i (pos 0)) (c .before .beyond-arg .given) refl)
 
 returns : tie.Need-returns Inv-loop μ-loop
 unfolding someFar

@@ -11,7 +11,7 @@ use Rattle.triples.specs.Sizes.{wordCount}
 use Rattle.triples.specs.Sets.{wordsOf}
 use Rattle.triples.proofs.SetLaws.{words-of}
 use Rattle.surfaces.specs.Stars.{linkedOf, supportedBy, turnedBy}
-use Rattle.surfaces.proofs.FlipLoops.{less-reached}
+use Rattle.surfaces.proofs.FlipLoops.{less-covered}
 use Rattle.surfaces.proofs.FourLaws.{four-unsupported}
 use Rattle.surfaces.proofs.flips.exchange.Statement.{statement}
 use Rattle.surfaces.proofs.flips.exchange.Tie as tie
@@ -37,17 +37,17 @@ module _ (n x : ℕ) (t u w : List ℕ) where
     unfolding supportedBy turnedBy
     whole i p q = yes-by (rw (m, i) refl) (q ∙ ap (λ (y : List ℕ). eitherOf y u) p ∙ rw i refl)
 
-    -- and is not inside it: by the triples that the link reaches
-    module _ (i : insideOf t w ≡ false) {reach : List ℕ} (r : reach ≡ linkedOf n x t w) where
-      beyond : insideOf (bothOf t w) reach ≡ false → Answer false w
+    -- and is not inside it: by the cones of the link
+    module _ (i : insideOf t w ≡ false) {cones : List ℕ} (r : cones ≡ linkedOf n x t w) where
+      beyond : insideOf (bothOf t w) cones ≡ false → Answer false w
       unfolding supportedBy
       beyond h = no (rw (m, i, sym r) h)
 
-      part : {d v : List ℕ} → Words wordCount t → insideOf (bothOf t w) reach ≡ true → d ≡ lessOf w (bothOf t reach) → v ≡ eitherOf d (bothOf u reach) → Answer true v
+      part : {d v : List ℕ} → Words wordCount t → insideOf (bothOf t w) cones ≡ true → d ≡ lessOf w (bothOf t cones) → v ≡ eitherOf d (bothOf u cones) → Answer true v
       unfolding supportedBy turnedBy
       part g h p q =
           yes-by (rw (m, i, sym r) h)
-          (q ∙ (λ j. eitherOf ((p ∙ less-reached wordCount t reach w g h) j) (bothOf u (r j))) ∙ rw i refl)
+          (q ∙ (λ j. eitherOf ((p ∙ less-covered wordCount t cones w g h) j) (bothOf u (r j))) ∙ rw i refl)
 
 returns : tie.Need-returns
 returns c =

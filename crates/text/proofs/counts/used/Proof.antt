@@ -8,10 +8,10 @@ use native.Mathlib.Nat.{add-zero}
 use borrow.Author.Needs.{needs}
 use Rattle.algebra.specs.Loops.{tally}
 use Rattle.algebra.specs.Words.{meetsOf}
-use Rattle.algebra.proofs.LoopLaws.{tally-none, tally-end}
+use Rattle.algebra.proofs.LoopLaws.{tally-none, tally-end, tally-turn}
 use Rattle.triples.specs.Sets.{wordsOf}
 use Rattle.text.specs.Lines.{usesOf, usedOf}
-use Rattle.text.proofs.CountLaws.{uses-held, sum-turn}
+use Rattle.text.proofs.CountLaws.{uses-held}
 use Rattle.text.proofs.counts.used.Statement.{statement}
 use Rattle.text.proofs.counts.used.Tie as tie
 
@@ -39,8 +39,8 @@ loop-again c =
     let l = m .before .before .before in
     let s = l .before .before in
     let uses = usesOf (s .args .n) (wordsOf (s .args .list)) in
-    ⊎-elim (λ p. (search needs, omega (arith, p .1), sum-turn uses (λ _. 1) (l .loop .k) (l .loop .inv .2) (sym (met m) ∙ p .0 .taken) (p .1)))
-    (λ p. (search needs, omega (arith, p .1), sum-turn uses (λ _. 1) (l .loop .k) (l .loop .inv .2) (sym (met m) ∙ p .0 .left) (p .1 ∙ sym (add-zero (l .loop .count))))) (c .if1 .came)
+    ⊎-elim (λ p. (search needs, omega (arith, p .1), tally-turn uses (λ _. 1) (l .loop .k) (l .loop .inv .2) (sym (met m) ∙ p .0 .taken) (p .1)))
+    (λ p. (search needs, omega (arith, p .1), tally-turn uses (λ _. 1) (l .loop .k) (l .loop .inv .2) (sym (met m) ∙ p .0 .left) (p .1 ∙ sym (add-zero (l .loop .count))))) (c .if1 .came)
 
 returns : tie.Need-returns Inv-loop μ-loop
 unfolding usedOf

@@ -1,27 +1,21 @@
 -- `triples::holding::size` meets its contract: the count is the tally so far.
-use mathlib.Core.Path.{_≡_, refl, sym, _∙_, ap}
+use mathlib.Core.Path.{_≡_, sym, _∙_}
 use mathlib.Core.Logic.{⊎-elim}
-use mathlib.Core.Bool.{Bool, true, false, cond}
-use mathlib.Core.List.{List}
-use Prim.Native.Nat.{ℕ, _+_, _*_, _-_, _<_, _≤_}
+use mathlib.Core.Bool.{cond}
+use Prim.Native.Nat.{_-_, _≤_}
 use native.Mathlib.Omega.{arith}
 use native.Mathlib.Nat.{add-zero}
 use borrow.Author.Needs.{needs}
 use Rattle.algebra.specs.Loops.{tally}
-use Rattle.algebra.specs.Words.{wordBits, member}
-use Rattle.algebra.proofs.LoopLaws.{tally-none, tally-more, tally-end}
-use Rattle.triples.specs.Sizes.{wordCount}
+use Rattle.algebra.specs.Words.{member}
+use Rattle.algebra.proofs.LoopLaws.{tally-none, tally-end, tally-turn}
 use Rattle.triples.specs.Sets.{wordsOf, sizeOf}
 use Rattle.triples.proofs.RankLaws.{rank-room}
 use Rattle.triples.proofs.holding.size.Statement.{statement}
 use Rattle.triples.proofs.holding.size.Tie as tie
 
--- what rank r adds
-abbrev one : List ℕ → ℕ → ℕ
-one w r = cond (member w r) 1 0
-
 abbrev Inv-loop : tie.InvT-loop
-Inv-loop n list count k₀ r₀ k r = (r ≤ count) × (k ≤ r) × (k ≡ tally r (one (wordsOf list)))
+Inv-loop n list count k₀ r₀ k r = (r ≤ count) × (k ≤ r) × (k ≡ tally r (λ i. cond (member (wordsOf list) i) 1 0))
 
 abbrev μ-loop : tie.MeasureT-loop
 μ-loop n list count k₀ r₀ k r = count - r
@@ -38,21 +32,13 @@ add-k c = omega (arith, has-requires (c .before .before) tt)
 add-r : tie.Need-add-r Inv-loop μ-loop
 add-r c = omega (arith, has-requires (c .before .before) tt)
 
--- one more rank, in the list or not
-more : (w : List ℕ) (r : ℕ) {k k′ : ℕ} {b : Bool} → k ≤ r → k ≡ tally r (one w) → member w r ≡ b → k′ ≡ k + cond b 1 0 → (k′ ≤ r + 1) × (k′ ≡ tally (r + 1) (one w))
-more w r {b = true} h e m p = (omega arith, tally-more (one w) r e (p ∙ rw m refl))
-more w r {b = false} h e m p = (omega arith, tally-more (one w) r e (p ∙ rw m refl))
-
 loop-again : tie.Need-loop-again Inv-loop μ-loop
 loop-again c =
     let o = c .before in
     let l = o .before .before in
-    let w = wordsOf (l .before .before .args .list) in
-    let v = l .loop .inv in
-    let m : (c .if1 .k ≤ l .loop .r + 1) × (c .if1 .k ≡ tally (l .loop .r + 1) (one w)) =
-    ⊎-elim (λ p. more w (l .loop .r) (v .1) (v .2) (sym (o .has .ensures) ∙ p .0 .taken) (p .1))
-    (λ p. more w (l .loop .r) (v .1) (v .2) (sym (o .has .ensures) ∙ p .0 .left) (p .1 ∙ sym (add-zero (l .loop .k)))) (c .if1 .came) in
-    (search needs, m .0, m .1)
+    let on = member (wordsOf (l .before .before .args .list)) in
+    ⊎-elim (λ p. (search needs, omega (arith, p .1), tally-turn on (λ _. 1) (l .loop .r) (l .loop .inv .2) (sym (o .has .ensures) ∙ p .0 .taken) (p .1)))
+    (λ p. (search needs, omega (arith, p .1), tally-turn on (λ _. 1) (l .loop .r) (l .loop .inv .2) (sym (o .has .ensures) ∙ p .0 .left) (p .1 ∙ sym (add-zero (l .loop .k))))) (c .if1 .came)
 
 returns : tie.Need-returns Inv-loop μ-loop
 unfolding sizeOf

@@ -2,8 +2,10 @@
 --
 --   three l a b c      the circuit of three shots on a line, the two ends against the middle one; none where they are not on a line
 --   four l a b c d     the circuit of four shots, split by sign; none where three of them are on a line
+--   terms3, terms4     their shots with their signs: `endSign` of an end and of the middle one; document 01's four signs
+--   flatAmong l a b c d    three of the four shots are on a line
 --   oneIf b z          z alone where b says so, else nothing
---   threes l, fours l  those of all a < b < c, of all a < b < c < d
+--   threes l, fours l  those of all a < b < c, of all a < b < c < d; `threesFrom`, `threesWith`, `foursFrom`, `foursWith`, `foursUpon`: where the smallest one, two or three are fixed
 --   circuitsOf l       the circuits of the patch in the order of their numbers
 --   shotsIn n z        the shots of a circuit, those below n, in increasing order
 --   Before s t         fewer shots, or as many and earlier in lexicographic order
@@ -20,10 +22,10 @@ use Rattle.algebra.specs.Loops.{picks, over}
 use Rattle.algebra.specs.Sets.{Lex}
 use Rattle.algebra.specs.Sign.{Sign, minus, plus, opposite, isNought}
 use Rattle.shots.specs.Patch.{countOf, orientOf, betweenOf}
-use Rattle.circuits.specs.Sides.{Circuit, Term, split, signIn}
+use Rattle.circuits.specs.Sides.{TwoSides, Term, split, signIn}
 
 -- one circuit or none
-unfoldable pub oneIf : Bool → Circuit → List Circuit
+unfoldable pub oneIf : Bool → TwoSides → List TwoSides
 oneIf b z = cond b (z ∷ []) []
 
 -- an end is plus, the middle one minus
@@ -38,7 +40,7 @@ terms3 l a b c =
     ∷ record { shot = c; sign = endSign (betweenOf l c a b) }
     ∷ []
 
-unfoldable pub three : List ℤ → ℕ → ℕ → ℕ → List Circuit
+unfoldable pub three : List ℤ → ℕ → ℕ → ℕ → List TwoSides
 three l a b c = oneIf (isNought (orientOf l a b c)) (split (terms3 l a b c))
 
 abbrev pub terms4 : List ℤ → ℕ → ℕ → ℕ → ℕ → List Term
@@ -50,38 +52,38 @@ terms4 l a b c d =
     ∷ []
 
 -- three of the four are on a line
-abbrev pub someFlat : List ℤ → ℕ → ℕ → ℕ → ℕ → Bool
-someFlat l a b c d = isNought (orientOf l b c d) || (isNought (orientOf l a c d) || (isNought (orientOf l a b d) || isNought (orientOf l a b c)))
+abbrev pub flatAmong : List ℤ → ℕ → ℕ → ℕ → ℕ → Bool
+flatAmong l a b c d = isNought (orientOf l b c d) || (isNought (orientOf l a c d) || (isNought (orientOf l a b d) || isNought (orientOf l a b c)))
 
-unfoldable pub four : List ℤ → ℕ → ℕ → ℕ → ℕ → List Circuit
-four l a b c d = oneIf (not (someFlat l a b c d)) (split (terms4 l a b c d))
+unfoldable pub four : List ℤ → ℕ → ℕ → ℕ → ℕ → List TwoSides
+four l a b c d = oneIf (not (flatAmong l a b c d)) (split (terms4 l a b c d))
 
 -- the last shot, the last two and so on from the ones that are fixed
-unfoldable pub threesWith : List ℤ → ℕ → ℕ → List Circuit
+unfoldable pub threesWith : List ℤ → ℕ → ℕ → List TwoSides
 threesWith l a b = over (three l a b) (b + 1) (countOf l)
 
-unfoldable pub threesFrom : List ℤ → ℕ → List Circuit
+unfoldable pub threesFrom : List ℤ → ℕ → List TwoSides
 threesFrom l a = over (threesWith l a) (a + 1) (countOf l)
 
-unfoldable pub threes : List ℤ → List Circuit
+unfoldable pub threes : List ℤ → List TwoSides
 threes l = over (threesFrom l) 0 (countOf l)
 
-unfoldable pub foursUpon : List ℤ → ℕ → ℕ → ℕ → List Circuit
+unfoldable pub foursUpon : List ℤ → ℕ → ℕ → ℕ → List TwoSides
 foursUpon l a b c = over (four l a b c) (c + 1) (countOf l)
 
-unfoldable pub foursWith : List ℤ → ℕ → ℕ → List Circuit
+unfoldable pub foursWith : List ℤ → ℕ → ℕ → List TwoSides
 foursWith l a b = over (foursUpon l a b) (b + 1) (countOf l)
 
-unfoldable pub foursFrom : List ℤ → ℕ → List Circuit
+unfoldable pub foursFrom : List ℤ → ℕ → List TwoSides
 foursFrom l a = over (foursWith l a) (a + 1) (countOf l)
 
-unfoldable pub fours : List ℤ → List Circuit
+unfoldable pub fours : List ℤ → List TwoSides
 fours l = over (foursFrom l) 0 (countOf l)
 
-unfoldable pub circuitsOf : List ℤ → List Circuit
+unfoldable pub circuitsOf : List ℤ → List TwoSides
 circuitsOf l = threes l ++ fours l
 
-unfoldable pub shotsIn : ℕ → Circuit → List ℕ
+unfoldable pub shotsIn : ℕ → TwoSides → List ℕ
 shotsIn n z = picks n (λ i. not (isNought (signIn z i)))
 
 abbrev pub Before : List ℕ → List ℕ → Type 0
