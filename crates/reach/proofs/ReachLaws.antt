@@ -1,4 +1,4 @@
--- Laws of what is reached by flips, and of the walk's invariant `Closed`, for any number of circuits and any flip.
+-- Laws of what is reached by flips, for any flip, and of the walk's invariant `Closed`, for any number of circuits and any numbered flip.
 --
 --   reach-as             where flips of one kind are flips of another on rows that have P, and keep P, what is reached by the one is reached by the other
 --   reach-kept           what r₀ has and every flip keeps, each row has that is reached from r₀
@@ -21,14 +21,14 @@ use native.Mathlib.Omega.{arith}
 use native.Mathlib.Nat.{mul-zero, add-mul, one-mul, add-zero, mul-le-mul-right, le-of-mul-le-mul-right, div-lt-iff-lt-mul, mul-add-div-right, mul-add-mod-self-right, div-eq-of-lt, mod-eq-of-lt, mod-lt}
 use native.Mathlib.Numerals.{add-one}
 use Rattle.algebra.proofs.LoopLaws.{last}
-use Rattle.reach.specs.Reach.{Flipping, Reach, here, by-flip, Among, Closed}
+use Rattle.reach.specs.Reach.{Reach, here, by-flip, Flipping, Along, Among, Closed}
 
-pub reach-as : {C : ℕ} {F G : Flipping} {r₀ r : List ℕ} (P : List ℕ → Type 0) → ((r r′ : List ℕ) (z : ℕ) → P r → z < C → F r z r′ → P r′ × G r z r′) → P r₀ → Reach C F r₀ r → P r × Reach C G r₀ r
+pub reach-as : {F G : List ℕ → List ℕ → Type 0} {r₀ r : List ℕ} (P : List ℕ → Type 0) → ((r r′ : List ℕ) → P r → F r r′ → P r′ × G r r′) → P r₀ → Reach F r₀ r → P r × Reach G r₀ r
 reach-as P turn p here = (p, here)
-reach-as {G = G} P turn p (by-flip {r = r} {r′ = r′} {z = z} h m f) = let (q, k) = reach-as {G = G} P turn p h in let (q′, g) = turn r r′ z q m f in (q′, by-flip k m g)
+reach-as {G = G} P turn p (by-flip {r = r} {r′ = r′} h f) = let (q, k) = reach-as {G = G} P turn p h in let (q′, g) = turn r r′ q f in (q′, by-flip k g)
 
-pub reach-kept : {C : ℕ} {F : Flipping} {r₀ r : List ℕ} (P : List ℕ → Type 0) → ((r r′ : List ℕ) (z : ℕ) → P r → z < C → F r z r′ → P r′) → P r₀ → Reach C F r₀ r → P r
-reach-kept {F = F} P keeps p h = reach-as {G = F} P (λ r r′ z q m f. (keeps r r′ z q m f, f)) p h .0
+pub reach-kept : {F : List ℕ → List ℕ → Type 0} {r₀ r : List ℕ} (P : List ℕ → Type 0) → ((r r′ : List ℕ) → P r → F r r′ → P r′) → P r₀ → Reach F r₀ r → P r
+reach-kept {F} P keeps p h = reach-as {G = F} P (λ r r′ q f. (keeps r r′ q f, f)) p h .0
 
 -- ---- the number of a step: its row and its circuit
 
@@ -103,7 +103,7 @@ module _ {C : ℕ} {F : Flipping} {r₀ : List ℕ} where
         first = same 0 (c .some) ∙ c .first;
         below = let e = row-more n C in let p = tried-circuit n s C l in omega arith;
         once = λ i j q m h. most j n m (λ b. c .once i j q b (sym (same i (omega arith)) ∙ h ∙ same j b)) (λ e. new (i, omega arith, sym (same i (omega arith)) ∙ h ∙ ap row′ e ∙ at-n));
-        reached = λ i m. most i n m (λ b. rw (same i b) (c .reached i b)) (λ e. rw (e, at-n) (by-flip (c .reached (s / C) (tried-row n s C l)) (mod-lt s (tried-circuit n s C l)) f));
+        reached = λ i m. most i n m (λ b. rw (same i b) (c .reached i b)) (λ e. rw (e, at-n) (by-flip (c .reached (s / C) (tried-row n s C l)) (s % C, mod-lt s (tried-circuit n s C l), f)));
         tried = λ k m x h. most k s m (λ b. still (c .tried k b x (rw (same (k / C) (tried-row n k C (omega arith))) at h)))
             (λ e. (n, omega arith, at-n ∙ det _ _ _ _ f (rw (e, same (s / C) (tried-row n s C l)) at h)));
       }
@@ -113,11 +113,11 @@ module _ {C : ℕ} {F : Flipping} {r₀ : List ℕ} where
     pub closed-neighbours : (p z : ℕ) (r : List ℕ) → (p + 1) * C ≤ s → z < C → F (row p) z r → Among row n r
     closed-neighbours p z r h l f = let e = row-more p C in c .tried (p * C + z) (omega arith) r (rw (step-row p z C l, step-circuit p z C l) f)
 
-    all-reached : s ≡ n * C → {r : List ℕ} → Reach C F r₀ r → Among row n r
+    all-reached : s ≡ n * C → {r : List ℕ} → Reach (Along C F) r₀ r → Among row n r
     all-reached e here = (0, c .some, c .first)
-    all-reached e (by-flip {r = x} {r′ = r} {z = z} w l f) =
+    all-reached e (by-flip {r = x} {r′ = r} w (z, l, f)) =
         let a = all-reached e w in
         closed-neighbours (a .0) z r (let h = mul-le-mul-right C (a .1) in rw (add-one, e) h) l (rw (a .2) f)
 
-    pub closed-whole : s ≡ n * C → (r : List ℕ) → Among row n r ↔ Reach C F r₀ r
+    pub closed-whole : s ≡ n * C → (r : List ℕ) → Among row n r ↔ Reach (Along C F) r₀ r
     closed-whole e r = (λ a. rw (← a .2) (c .reached (a .0) (a .1)), all-reached e)

@@ -1,13 +1,16 @@
 -- The cases of a step and of a start as equations, for whoever proves code or a theorem against them.
 --
 --   room-for                         a row below the capacity lies in the table
---   seen-reflects, seen-stands, unseen    the test `seenIn` decides whether r is one of the first n rows
+--   seen-reflects                    the test `seenIn` decides whether r is one of the first n rows
 --   seen-at, unseen-all              what a scan of the rows has found
 --   impossible-reflects              the test `impossible` decides the three causes of 15: impossible-zero, impossible-beyond, impossible-above
 --   possible-facts, possible-holds   what a record says that is not impossible, and back
---   store-known, store-full, store-new    what a step makes of a flip's result
+--   store-known, store-full, store-new    what a step makes of a flip's result, by what its finder says
+--   only-either                      rules in front of a landing refuse, with everything as it was, or change nothing
 --   walk-refused, walk-impossible, walk-passed    what the first rules make of any landing x
 --   step-passed, run-passed          a step and a run behind the first rules
+--   step-possible                    where a step is not refused, the record was possible
+--   run-let                          where a run is not refused, it is its steps
 --   try-done, try-flip               a step is done, or it tries a flip
 --   after-none, after-refused        what it makes of a flip's refusal
 --   start-refused, start-full, start-writes, start-facts    a start, by the test's answer and by the room; what is true where it was made
@@ -17,33 +20,36 @@
 --   SomeFlip g r                     r is what the flip makes of some list of as many words
 --   goes-none, goes-on, step-goes    no step, one more, one: each goes so where it is made
 --   goes-possible                    a record that was possible is so after them
+--   step-made-leaves                 what a step that is made leaves, by its two cases (specs/Leaving)
+--   row-by-row                       the same row by row; tried-size: what a flip gives is as long as a row
 --   step-unmade, step-keeps, done-keeps, start-keeps    a call that is not made changes nothing
---   step-stops, step-never-started   a step that is not made is done or refuses; no step answers started
+--   step-stops                       a step that is not made is done or refuses
 --   done-end                         done is answered at the end alone
 --
 -- Several steps: proofs/RunLaws. Source: document 01, "The walk", "Refusal numbers".
 use mathlib.Core.Path.{_≡_, refl, sym, ap, _∙_, subst}
-use mathlib.Core.Logic.{_⊎_, inl, inr, ⊎-elim}
+use mathlib.Core.Logic.{_⊎_, inl, inr}
 use mathlib.Core.Bool.{Bool, true, false, cond}
 use mathlib.Core.List.{List, [], _∷_}
 use Prim.Native.Nat.{ℕ, suc, _+_, _*_, _/_, _%_, _<_, _≤_}
 use native.Mathlib.Omega.{arith}
 use native.Mathlib.Decide.{decLt}
-use native.Mathlib.Nat.{min-le-left, mul-le-mul-left, mul-le-mul-right, mul-div-le}
+use native.Mathlib.Nat.{min-le-left, mul-one, mul-add, mul-le-mul-left, mul-le-mul-right, mul-div-le}
 use lib.Dec.{eqb}
 use lib.ListN.{length}
 use borrow.Author.Tests.{eq-eqb, ne-eqb, eqb-true, eqb-false}
-use Rattle.algebra.specs.Answer.{Answer, gives, refuses, Rule, chain, refusal, Numbered, Reflects}
+use Rattle.algebra.specs.Answer.{Answer, gives, refuses, Rule, chain, refusal, Numbered, Reflects, holds, fails}
 use Rattle.algebra.specs.Sets.{sameList}
 use Rattle.algebra.specs.Words.{rowOf, setRow}
-use Rattle.algebra.proofs.AnswerLaws.{given-refused, chain-broken, chain-kept, chain-stop, chain-after}
+use Rattle.algebra.proofs.AnswerLaws.{given-refused, chain-broken, chain-kept, chain-stop, chain-after, append-unbroken, gives-unbroken}
 use Rattle.algebra.proofs.AnswerLaws.{reflects-yes, reflects-no, reflects-true, reflects-false, reflects-or, reflects-eqb, reflects-ltb}
 use Rattle.algebra.proofs.LoopLaws.{reflects-any}
 use Rattle.algebra.proofs.SetTests.{reflects-same}
-use Rattle.algebra.proofs.WordLaws.{row-length, row-same, row-other, setRow-length}
-use Rattle.reach.specs.Walks.{Ground, WalkRecord, Reply, started, made, done, Landing, leaves, onlyIf, rowsMost, capacityOf, seenIn, impossible, walkRules, counted, grown}
+use Rattle.algebra.proofs.WordLaws.{row-length, row-same, row-other, row-behind, setRow-length}
+use Rattle.reach.specs.Walks.{Ground, WalkRecord, Begun, started, Reply, made, done, Landing, leaves, onlyIf, rowsMost, capacityOf, seenIn, impossible, walkRules, counted, grown}
 use Rattle.reach.specs.Walks.{storeOf, afterFlip, tryOf, stepOf, stepsOf, runOf, begin, startOf}
 use Rattle.reach.specs.Reach.{Stands}
+use Rattle.reach.specs.Leaving.{triedOf, MadeStep, no-row, new-row, RowByRow}
 use Rattle.reach.specs.Walked.{FlipsTo, Keeps}
 
 -- ---- rows
@@ -60,12 +66,6 @@ module _ (k : ℕ) (t : List ℕ) (n : ℕ) (r : List ℕ) where
   pub seen-reflects : Reflects (Stands k t n r) (seenIn k t n r)
   unfolding seenIn
   seen-reflects = reflects-any (λ p. rowOf k t p ≡ r) (λ p. sameList (rowOf k t p) r) n (λ p l. reflects-same (rowOf k t p) r)
-
-  pub seen-stands : seenIn k t n r ≡ true → Stands k t n r
-  seen-stands e = reflects-yes seen-reflects e
-
-  pub unseen : seenIn k t n r ≡ false → Stands k t n r → ⊥
-  unseen e s = reflects-no seen-reflects e s
 
   pub seen-at : (p : ℕ) → p < n → sameList (rowOf k t p) r ≡ true → seenIn k t n r ≡ true
   seen-at p l e = reflects-true seen-reflects (p, l, reflects-yes (reflects-same (rowOf k t p) r) e)
@@ -112,26 +112,36 @@ module _ (m : ℕ) (w : WalkRecord) (c : ℕ) where
 
 -- ---- a flip's result
 
-module _ (k : ℕ) (t : List ℕ) (w : WalkRecord) (r : List ℕ) where
-  pub store-known : seenIn k t (w .rows) r ≡ true → storeOf k t w r ≡ leaves t (counted w) (gives made)
+module _ (k : ℕ) (find : List ℕ → Bool) (t : List ℕ) (w : WalkRecord) (r : List ℕ) where
+  pub store-known : find r ≡ true → storeOf k find t w r ≡ leaves t (counted w) (gives made)
   unfolding storeOf
   store-known e = rw e
 
-  pub store-full : seenIn k t (w .rows) r ≡ false → w .rows ≡ capacityOf k (length t) → storeOf k t w r ≡ leaves t w (refuses 11)
+  pub store-full : find r ≡ false → w .rows ≡ capacityOf k (length t) → storeOf k find t w r ≡ leaves t w (refuses 11)
   unfolding storeOf
   store-full e q = rw (e, eq-eqb _ _ q)
 
-  pub store-new : seenIn k t (w .rows) r ≡ false → (w .rows ≡ capacityOf k (length t) → ⊥) → storeOf k t w r ≡ leaves (setRow t (w .rows) r) (grown w) (gives made)
+  pub store-new : find r ≡ false → (w .rows ≡ capacityOf k (length t) → ⊥) → storeOf k find t w r ≡ leaves (setRow t (w .rows) r) (grown w) (gives made)
   unfolding storeOf
   store-new e ne = rw (e, ne-eqb _ _ ne)
 
 -- ---- the first rules of a step and of a run
 
+-- rules in front refuse, with everything as it was, or change nothing
+pub only-either : {A : Type 0} (t : List ℕ) (w : WalkRecord) (P : Landing A → Type 0) (rs : List Rule) (x : Landing A) → ((n : ℕ) → P (leaves t w (refuses n))) → P x → P (onlyIf t w (chain rs x))
+unfolding chain
+only-either t w P [] x f h = h
+only-either t w P (r ∷ rs) x f h = go (r .broken) (only-either t w P rs x f h)
+  where
+    go : (b : Bool) → P (onlyIf t w (chain rs x)) → P (onlyIf t w (cond b (refuses (r .number)) (chain rs x)))
+    go true k = f (r .number)
+    go false k = k
+
 module _ (g : Ground) (t : List ℕ) (w : WalkRecord) where
   abbrev recordRule : Rule
   recordRule = record { number = 15; broken = impossible (capacityOf (g .words) (length t)) w (g .circuits) }
 
-  module _ (x : Landing) where
+  module _ (x : Landing Reply) where
     pub walk-refused : (refusal (g .before) ≡ 0 → ⊥) → onlyIf t w (chain (walkRules g t w) x) ≡ leaves t w (refuses (refusal (g .before)))
     walk-refused h = ap (onlyIf t w) (sym (chain-stop (g .before) (recordRule ∷ []) x h))
 
@@ -143,6 +153,29 @@ module _ (g : Ground) (t : List ℕ) (w : WalkRecord) where
         → onlyIf t w (chain (walkRules g t w) x) ≡ x
     unfolding chain
     walk-passed n z e = ap (onlyIf t w) (sym (chain-kept recordRule [] x e ∙ chain-after (g .before) (recordRule ∷ []) x n z))
+
+  -- what they say that let a landing pass, by its answer
+  rules-possible : {A : Type 0} (x : Landing A) {v : A} → onlyIf t w (chain (walkRules g t w) x) .answer ≡ gives v → impossible (capacityOf (g .words) (length t)) w (g .circuits) ≡ false
+  rules-possible {A} x {v} = go (chain (walkRules g t w) x) refl
+    where
+      go : (a : Answer (Landing A)) → chain (walkRules g t w) x ≡ a → onlyIf t w a .answer ≡ gives v → impossible (capacityOf (g .words) (length t)) w (g .circuits) ≡ false
+      go (refuses n) q e = given-refused (sym e)
+      go (gives y) q e = append-unbroken (g .before) (recordRule ∷ []) (gives-unbroken (walkRules g t w) x y q .0) .1 .0
+
+  rules-let : {A : Type 0} (x : Landing A) {v : A} → onlyIf t w (chain (walkRules g t w) x) .answer ≡ gives v → onlyIf t w (chain (walkRules g t w) x) ≡ x
+  rules-let {A} x {v} = go (chain (walkRules g t w) x) refl
+    where
+      go : (a : Answer (Landing A)) → chain (walkRules g t w) x ≡ a → onlyIf t w a .answer ≡ gives v → onlyIf t w a ≡ x
+      go (refuses n) q e = given-refused (sym e)
+      go (gives y) q e = sym (gives-unbroken (walkRules g t w) x y q .1)
+
+  pub run-let : (b : ℕ) {v : Reply} → runOf g t w b .answer ≡ gives v → runOf g t w b ≡ stepsOf g b t w
+  unfolding runOf
+  run-let b e = rules-let (stepsOf g b t w) e
+
+  pub step-possible : {v : Reply} → stepOf g t w .answer ≡ gives v → impossible (capacityOf (g .words) (length t)) w (g .circuits) ≡ false
+  unfolding stepOf
+  step-possible e = rules-possible (tryOf g t w) e
 
   pub step-passed : Numbered (g .before) → refusal (g .before) ≡ 0 → impossible (capacityOf (g .words) (length t)) w (g .circuits) ≡ false → stepOf g t w ≡ tryOf g t w
   unfolding stepOf
@@ -188,14 +221,7 @@ module _ (g : Ground) (t : List ℕ) (w : WalkRecord) where
 pub done-made : {X : Type 0} → _≡_ {A = Answer Reply} (gives done) (gives made) → X
 done-made e = let z : _≡_ {A = ℕ} 0 1 = cc in absurd (omega arith)
 
-pub started-made : {X : Type 0} → _≡_ {A = Answer Reply} (gives started) (gives made) → X
-started-made e = let z : _≡_ {A = ℕ} 0 1 = cc in absurd (omega arith)
-
-started-done : {X : Type 0} → _≡_ {A = Answer Reply} (gives started) (gives done) → X
-started-done e = let z : _≡_ {A = ℕ} 0 1 = cc in absurd (omega arith)
-
 pub made-dec : (a : Answer Reply) → Dec (a ≡ gives made)
-made-dec (gives started) = no started-made
 made-dec (gives made) = yes refl
 made-dec (gives done) = no done-made
 made-dec (refuses n) = no (λ e. given-refused (sym e))
@@ -203,7 +229,7 @@ made-dec (refuses n) = no (λ e. given-refused (sym e))
 abbrev pub SomeFlip : Ground → List ℕ → Type 0
 SomeFlip g r′ = (r : List ℕ) × (z : ℕ) × (length r ≡ g .words) × FlipsTo g r z r′
 
-pub record Goes (g : Ground) (t : List ℕ) (w : WalkRecord) (n : ℕ) (l : Landing) : Type 0 where
+pub record Goes (g : Ground) (t : List ℕ) (w : WalkRecord) (n : ℕ) (l : Landing Reply) : Type 0 where
   pub counts : l .walk .step ≡ w .step + n
   pub grows : w .rows ≤ l .walk .rows
   pub room : w .rows ≤ capacityOf (g .words) (length t) → l .walk .rows ≤ capacityOf (g .words) (length (l .table))
@@ -215,7 +241,7 @@ module _ {g : Ground} {t : List ℕ} {w : WalkRecord} where
   pub goes-none : Goes g t w 0 (leaves t w (gives made))
   goes-none = record { counts = omega arith; grows = omega arith; room = λ h. h; below = λ h. h; stay = λ k p l. refl; wrote = λ k f p h l. absurd (omega arith) }
 
-  pub goes-on : {l m : Landing} (n : ℕ) → Goes g t w 1 l → Goes g (l .table) (l .walk) n m → Goes g t w (suc n) m
+  pub goes-on : {l m : Landing Reply} (n : ℕ) → Goes g t w 1 l → Goes g (l .table) (l .walk) n m → Goes g t w (suc n) m
   goes-on {l} {m} n a b = record {
     counts = let c = a .counts in let d = b .counts in omega arith;
     grows = let c = a .grows in let d = b .grows in omega arith;
@@ -229,120 +255,132 @@ module _ {g : Ground} {t : List ℕ} {w : WalkRecord} where
       wrote-on k f p h i (yes j) = subst (SomeFlip g) (sym (b .stay k p j)) (a .wrote k f p h j)
       wrote-on k f p h i (no j) = b .wrote k (a .room f) p (omega arith) i
 
-  pub goes-possible : {n : ℕ} {l : Landing} → Goes g t w n l → impossible (capacityOf (g .words) (length t)) w (g .circuits) ≡ false
+  pub goes-possible : {n : ℕ} {l : Landing Reply} → Goes g t w n l → impossible (capacityOf (g .words) (length t)) w (g .circuits) ≡ false
       → impossible (capacityOf (g .words) (length (l .table))) (l .walk) (g .circuits) ≡ false
   goes-possible a e = let f = possible-facts _ w _ e in possible-holds _ _ _ (let c = a .grows in let d = f .0 in omega arith) (a .room (f .1)) (a .below (f .2))
 
+-- ---- a step that is made
+
+-- what the flip tried gives is as long as a row
+pub tried-size : (g : Ground) (t : List ℕ) (w : WalkRecord) → Keeps g → (r : List ℕ) → triedOf g t w ≡ gives r → length r ≡ g .words
+tried-size g t w k r f = k _ r _ (row-length (g .words) t (w .step / g .circuits)) f
+
+module _ {g : Ground} {t : List ℕ} {w : WalkRecord} where
+  made-answer : {l : Landing Reply} → MadeStep g t w l → l .answer ≡ gives made
+  made-answer (no-row _) = refl
+  made-answer (new-row r f new room) = refl
+
+  made-goes : {l : Landing Reply} → (w .step ≡ w .rows * g .circuits → ⊥) → MadeStep g t w l → Goes g t w 1 l
+  made-goes ne (no-row _) = record { counts = refl; grows = omega arith; room = λ h. h; below = λ h. omega arith; stay = λ k p l. refl; wrote = λ k f p h l. absurd (omega arith) }
+  made-goes ne (new-row r f new full) = record {
+    counts = refl;
+    grows = omega arith;
+    room = λ h. rw setRow-length (omega arith);
+    below = λ h. let m = mul-le-mul-right (g .circuits) (let i : w .rows ≤ w .rows + 1 = omega arith in i) in omega arith;
+    stay = λ k p l. row-other (g .words) t (w .rows) p r (tried-size g t w k r f) (λ q. omega arith);
+    wrote = λ k h p a b. subst (SomeFlip g) (written k (omega arith) p (omega arith)) (_, _, row-length (g .words) t (w .step / g .circuits), f);
+  }
+    where
+      written : Keeps g → w .rows < capacityOf (g .words) (length t) → (p : ℕ) → w .rows ≡ p → r ≡ rowOf (g .words) (setRow t (w .rows) r) p
+      written k h p e = sym (row-same (g .words) t (w .rows) r (tried-size g t w k r f) (room-for (g .words) (length t) (w .rows) h)) ∙ ap (rowOf (g .words) (setRow t (w .rows) r)) e
+
+  pub row-by-row : {l : Landing Reply} → Keeps g → w .rows ≤ capacityOf (g .words) (length t) → MadeStep g t w l → RowByRow g t w l
+  row-by-row k fits (no-row _) = record { counts = refl; rows = inl refl; stay = λ p h. refl; written = λ e. absurd (omega arith); rest = λ i h. refl }
+  row-by-row k fits (new-row r f new full) = record {
+    counts = refl;
+    rows = inr refl;
+    stay = λ p h. row-other (g .words) t (w .rows) p r (tried-size g t w k r f) (λ q. absurd (more (h (sym q))));
+    written = λ _. (f ∙ ap gives (sym here), λ s. new (subst (Stands (g .words) t (w .rows)) here s));
+    rest = λ i h. row-behind (g .words) t (w .rows) i r (tried-size g t w k r f) (let e = mul-add (g .words) (w .rows) 1 in let o = mul-one (g .words) in omega arith);
+  }
+    where
+      more : w .rows + 1 ≡ w .rows → ⊥
+      more e = omega arith
+
+      here : rowOf (g .words) (setRow t (w .rows) r) (w .rows) ≡ r
+      here = row-same (g .words) t (w .rows) r (tried-size g t w k r f) (room-for (g .words) (length t) (w .rows) (omega arith))
+
 -- a step is made; or everything is as it was, and it is done at the end, or refuses
-data Outcome (g : Ground) (t : List ℕ) (w : WalkRecord) : Landing → Type 0 where
-  goes : (u : List ℕ) (v : WalkRecord) → Goes g t w 1 (leaves u v (gives made)) → Outcome g t w (leaves u v (gives made))
+data Outcome (g : Ground) (t : List ℕ) (w : WalkRecord) : Landing Reply → Type 0 where
+  goes : {l : Landing Reply} → (w .step ≡ w .rows * g .circuits → ⊥) → MadeStep g t w l → Outcome g t w l
   ends : w .step ≡ w .rows * g .circuits → Outcome g t w (leaves t w (gives done))
   stays : (n : ℕ) → Outcome g t w (leaves t w (refuses n))
 
 module _ (g : Ground) (t : List ℕ) (w : WalkRecord) where
-  abbrev tried : Answer (List ℕ)
-  tried = g .flip (rowOf (g .words) t (w .step / g .circuits)) (w .step % g .circuits)
-
   -- where a circuit is left to try
   module _ (ne : w .step ≡ w .rows * g .circuits → ⊥) where
-    outcome-counted : Outcome g t w (leaves t (counted w) (gives made))
-    outcome-counted = goes t (counted w) (record { counts = refl; grows = omega arith; room = λ h. h; below = λ h. omega arith; stay = λ k p l. refl; wrote = λ k f p h l. absurd (omega arith) })
-
-    outcome-grown : (r : List ℕ) → tried ≡ gives r → (w .rows ≡ capacityOf (g .words) (length t) → ⊥) → Outcome g t w (leaves (setRow t (w .rows) r) (grown w) (gives made))
-    outcome-grown r f full =
-        goes (setRow t (w .rows) r) (grown w)
-        (record {
-          counts = refl;
-          grows = omega arith;
-          room = λ h. rw setRow-length (omega arith);
-          below = λ h. let m = mul-le-mul-right (g .circuits) (let i : w .rows ≤ w .rows + 1 = omega arith in i) in omega arith;
-          stay = λ k p l. row-other (g .words) t (w .rows) p r (size k) (λ q. omega arith);
-          wrote = λ k h p a b. subst (SomeFlip g) (written k (omega arith) p (omega arith)) (_, _, row-length (g .words) t (w .step / g .circuits), f);
-        })
-      where
-        size : Keeps g → length r ≡ g .words
-        size k = k _ r _ (row-length (g .words) t (w .step / g .circuits)) f
-
-        written : Keeps g → w .rows < capacityOf (g .words) (length t) → (p : ℕ) → w .rows ≡ p → r ≡ rowOf (g .words) (setRow t (w .rows) r) p
-        written k h p e = sym (row-same (g .words) t (w .rows) r (size k) (room-for (g .words) (length t) (w .rows) h)) ∙ ap (rowOf (g .words) (setRow t (w .rows) r)) e
-
-    outcome-store : (r : List ℕ) → tried ≡ gives r → Outcome g t w (storeOf (g .words) t w r)
+    outcome-store : (r : List ℕ) → triedOf g t w ≡ gives r → Outcome g t w (storeOf (g .words) (seenIn (g .words) t (w .rows)) t w r)
     unfolding storeOf
-    outcome-store r f = go (seenIn (g .words) t (w .rows) r) (eqb (w .rows) (capacityOf (g .words) (length t))) refl
+    outcome-store r f = go (seen-reflects (g .words) t (w .rows) r) (reflects-eqb (w .rows) (capacityOf (g .words) (length t)))
       where
-        go : (a b : Bool) → eqb (w .rows) (capacityOf (g .words) (length t)) ≡ b
+        go : {a b : Bool} → Reflects (Stands (g .words) t (w .rows) r) a → Reflects (w .rows ≡ capacityOf (g .words) (length t)) b
             → Outcome g t w (cond a (leaves t (counted w) (gives made)) (cond b (leaves t w (refuses 11)) (leaves (setRow t (w .rows) r) (grown w) (gives made))))
-        go true b e = outcome-counted
-        go false true e = stays 11
-        go false false e = outcome-grown r f (eqb-false _ _ e)
+        go (holds h) d = goes ne (no-row (inr (r, f, h)))
+        go (fails h) (holds e) = stays 11
+        go (fails h) (fails e) = goes ne (new-row r f h e)
 
-    outcome-flip : (x : Answer (List ℕ)) → tried ≡ x → Outcome g t w (afterFlip g t w x)
+    outcome-flip : (x : Answer (List ℕ)) → triedOf g t w ≡ x → Outcome g t w (afterFlip g t w x)
     outcome-flip (gives r) f = outcome-store r f
-    outcome-flip (refuses n) f = go (eqb n 13)
+    outcome-flip (refuses n) f = go (reflects-eqb n 13)
       where
-        go : (b : Bool) → Outcome g t w (cond b (leaves t (counted w) (gives made)) (leaves t w (refuses n)))
-        go true = outcome-counted
-        go false = stays n
+        go : {b : Bool} → Reflects (n ≡ 13) b → Outcome g t w (cond b (leaves t (counted w) (gives made)) (leaves t w (refuses n)))
+        go (holds e) = goes ne (no-row (inl (f ∙ ap refuses e)))
+        go (fails _) = stays n
 
   outcome-try : Outcome g t w (tryOf g t w)
   unfolding tryOf
   outcome-try = go (eqb (w .step) (w .rows * g .circuits)) refl
     where
-      go : (b : Bool) → eqb (w .step) (w .rows * g .circuits) ≡ b → Outcome g t w (cond b (leaves t w (gives done)) (afterFlip g t w tried))
+      go : (b : Bool) → eqb (w .step) (w .rows * g .circuits) ≡ b → Outcome g t w (cond b (leaves t w (gives done)) (afterFlip g t w (triedOf g t w)))
       go true e = ends (eqb-true _ _ e)
-      go false e = outcome-flip (eqb-false _ _ e) tried refl
-
-  -- rules in front refuse, or change nothing
-  outcome-rules : (rs : List Rule) {x : Landing} → Outcome g t w x → Outcome g t w (onlyIf t w (chain rs x))
-  unfolding chain
-  outcome-rules [] o = o
-  outcome-rules (r ∷ rs) {x} o = go (r .broken) (outcome-rules rs o)
-    where
-      go : (b : Bool) → Outcome g t w (onlyIf t w (chain rs x)) → Outcome g t w (onlyIf t w (cond b (refuses (r .number)) (chain rs x)))
-      go true p = stays (r .number)
-      go false p = p
+      go false e = outcome-flip (eqb-false _ _ e) (triedOf g t w) refl
 
   outcome : Outcome g t w (stepOf g t w)
   unfolding stepOf
-  outcome = outcome-rules (walkRules g t w) outcome-try
+  outcome = only-either t w (Outcome g t w) (walkRules g t w) (tryOf g t w) stays outcome-try
 
   -- ---- what that says of its answer
 
   pub step-unmade : (stepOf g t w .answer ≡ gives made → ⊥) → stepOf g t w ≡ leaves t w (stepOf g t w .answer)
   step-unmade = go outcome
     where
-      go : {l : Landing} → Outcome g t w l → (l .answer ≡ gives made → ⊥) → l ≡ leaves t w (l .answer)
-      go (goes u v x) h = absurd (h refl)
+      go : {l : Landing Reply} → Outcome g t w l → (l .answer ≡ gives made → ⊥) → l ≡ leaves t w (l .answer)
+      go (goes _ x) h = absurd (h (made-answer x))
       go (ends q) h = refl
       go (stays n) h = refl
 
   pub step-stops : (stepOf g t w .answer ≡ gives made → ⊥) → (stepOf g t w .answer ≡ gives done) ⊎ ((n : ℕ) × (stepOf g t w .answer ≡ refuses n))
   step-stops = go outcome
     where
-      go : {l : Landing} → Outcome g t w l → (l .answer ≡ gives made → ⊥) → (l .answer ≡ gives done) ⊎ ((n : ℕ) × (l .answer ≡ refuses n))
-      go (goes u v x) h = absurd (h refl)
+      go : {l : Landing Reply} → Outcome g t w l → (l .answer ≡ gives made → ⊥) → (l .answer ≡ gives done) ⊎ ((n : ℕ) × (l .answer ≡ refuses n))
+      go (goes _ x) h = absurd (h (made-answer x))
       go (ends q) h = inl refl
       go (stays n) h = inr (n, refl)
 
+  pub step-made-leaves : stepOf g t w .answer ≡ gives made → (w .step ≡ w .rows * g .circuits → ⊥) × MadeStep g t w (stepOf g t w)
+  step-made-leaves = go outcome
+    where
+      go : {l : Landing Reply} → Outcome g t w l → l .answer ≡ gives made → (w .step ≡ w .rows * g .circuits → ⊥) × MadeStep g t w l
+      go (goes ne x) e = (ne, x)
+      go (ends q) e = done-made e
+      go (stays n) e = given-refused (sym e)
+
   -- l is what a callee leaves
-  pub step-goes : {l : Landing} → l ≡ stepOf g t w → l .answer ≡ gives made → Goes g t w 1 l
+  pub step-goes : {l : Landing Reply} → l ≡ stepOf g t w → l .answer ≡ gives made → Goes g t w 1 l
   step-goes is = go (subst (Outcome g t w) (sym is) outcome)
     where
-      go : {l : Landing} → Outcome g t w l → l .answer ≡ gives made → Goes g t w 1 l
-      go (goes u v x) e = x
+      go : {l : Landing Reply} → Outcome g t w l → l .answer ≡ gives made → Goes g t w 1 l
+      go (goes ne x) e = made-goes ne x
       go (ends q) e = done-made e
       go (stays n) e = given-refused (sym e)
 
   pub done-end : stepOf g t w .answer ≡ gives done → w .step ≡ w .rows * g .circuits
   done-end = go outcome
     where
-      go : {l : Landing} → Outcome g t w l → l .answer ≡ gives done → w .step ≡ w .rows * g .circuits
-      go (goes u v x) e = done-made (sym e)
+      go : {l : Landing Reply} → Outcome g t w l → l .answer ≡ gives done → w .step ≡ w .rows * g .circuits
+      go (goes _ x) e = done-made (sym e ∙ made-answer x)
       go (ends q) e = q
       go (stays n) e = given-refused (sym e)
-
-  pub step-never-started : stepOf g t w .answer ≡ gives started → ⊥
-  step-never-started e = ⊎-elim (λ d. started-done (sym e ∙ d)) (λ p. given-refused (sym e ∙ p .1)) (step-stops (λ m. started-made (sym e ∙ m)))
 
   pub step-keeps : (n : ℕ) → stepOf g t w .answer ≡ refuses n → stepOf g t w ≡ leaves t w (refuses n)
   step-keeps n e = step-unmade (λ m. given-refused (sym m ∙ e)) ∙ ap (leaves t w) e
@@ -364,8 +402,8 @@ module _ (g : Ground) (t : List ℕ) (w : WalkRecord) where
         go (gives v) e false q = let ne = eqb-false _ _ q in h e (omega arith) (start-writes g t w r e ne)
 
     pub start-keeps : (n : ℕ) → startOf g t w r .answer ≡ refuses n → startOf g t w r ≡ leaves t w (refuses n)
-    start-keeps n e = start-cases (λ m q. q ∙ ap (leaves t w) (sym (ap (λ (l : Landing). l .answer) q) ∙ e)) (λ p l q. given-refused (sym (ap (λ (l : Landing). l .answer) q) ∙ e))
+    start-keeps n e = start-cases (λ m q. q ∙ ap (leaves t w) (sym (ap (λ (l : Landing Begun). l .answer) q) ∙ e)) (λ p l q. given-refused (sym (ap (λ (l : Landing Begun). l .answer) q) ∙ e))
 
     pub start-facts : startOf g t w r .answer ≡ gives started
         → (g .test r ≡ gives tt) × (0 < capacityOf (g .words) (length t)) × (startOf g t w r ≡ leaves (setRow t 0 r) (record { rows = 1; step = 0 }) (gives started))
-    start-facts e = start-cases (λ m q. given-refused (sym e ∙ ap (λ (l : Landing). l .answer) q)) (λ p l q. (p, l, q))
+    start-facts e = start-cases (λ m q. given-refused (sym e ∙ ap (λ (l : Landing Begun). l .answer) q)) (λ p l q. (p, l, q))

@@ -1,79 +1,90 @@
--- The table keeps its length, whatever is walked over.
+-- The table keeps its length, and its words behind the last whole row, whatever is walked over.
 --
 --   Long t l                           the landing l has a table as long as t
 --   step-long, run-long, start-long    so has a step's, a run's and a start's
+--   Behind k t l                       the words of t behind the last of its rows of k words that can be used stand in the table of l too
+--   step-behind, run-behind, start-behind    so they do after a step, a run and a start, whatever is answered
 use mathlib.Core.Path.{_≡_, refl, _∙_}
-use mathlib.Core.Bool.{Bool, true, false, cond}
-use mathlib.Core.List.{List, [], _∷_}
-use Prim.Native.Nat.{ℕ, zero, suc, _*_, _/_, _%_}
-use lib.Dec.{eqb}
-use lib.ListN.{length}
-use Rattle.algebra.specs.Answer.{Answer, gives, refuses, Rule, chain}
-use Rattle.algebra.specs.Words.{rowOf, setRow}
-use Rattle.algebra.proofs.WordLaws.{setRow-length}
-use Rattle.reach.specs.Walks.{Ground, WalkRecord, Reply, started, made, done, Landing, leaves, onlyIf, capacityOf, seenIn, walkRules, counted, grown, storeOf, afterFlip, tryOf, stepOf, goOn, stepsOf, runOf, begin, startOf}
+use mathlib.Core.List.{List}
+use Prim.Native.Nat.{ℕ, zero, suc, _+_, _*_, _<_, _≤_}
+use native.Mathlib.Omega.{arith}
+use native.Mathlib.Nat.{mul-suc, mul-le-mul-left}
+use lib.ListN.{length, getD}
+use Rattle.algebra.specs.Answer.{Answer, gives, refuses}
+use Rattle.algebra.proofs.WordLaws.{row-behind, setRow-length}
+use Rattle.reach.specs.Walks.{Ground, WalkRecord, Begun, started, Reply, made, Landing, capacityOf, walkRules, stepOf, stepsOf, runOf, startOf}
+use Rattle.reach.specs.Walked.{Keeps}
+use Rattle.reach.specs.Leaving.{MadeStep, no-row, new-row}
+use Rattle.reach.proofs.StepLaws.{only-either, possible-facts, made-dec, tried-size, step-possible, step-made-leaves, step-unmade, start-keeps, start-facts}
+use Rattle.reach.proofs.RunLaws.{steps-none, steps-first}
 
--- a landing with a table as long as t
-abbrev pub Long : List ℕ → Landing → Type 0
+-- ---- its length
+
+abbrev pub Long : {A : Type 0} → List ℕ → Landing A → Type 0
 Long t l = length (l .table) ≡ length t
 
-cond-long : (t : List ℕ) (b : Bool) (l m : Landing) → Long t l → Long t m → Long t (cond b l m)
-cond-long t true l m p q = p
-cond-long t false l m p q = q
-
-only-long : (t : List ℕ) (w : WalkRecord) (rs : List Rule) (l : Landing) → Long t l → Long t (onlyIf t w (chain rs l))
-unfolding chain
-only-long t w [] l h = h
-only-long t w (r ∷ rs) l h = go (r .broken) (only-long t w rs l h)
-  where
-    go : (b : Bool) → Long t (onlyIf t w (chain rs l)) → Long t (onlyIf t w (cond b (refuses (r .number)) (chain rs l)))
-    go true k = refl
-    go false k = k
-
-module _ (g : Ground) (t : List ℕ) (w : WalkRecord) where
-  store-long : (r : List ℕ) → Long t (storeOf (g .words) t w r)
-  unfolding storeOf
-  store-long r =
-      let new = leaves (setRow t (w .rows) r) (grown w) (gives made) in
-      let full = eqb (w .rows) (capacityOf (g .words) (length t)) in
-      cond-long t (seenIn (g .words) t (w .rows) r) (leaves t (counted w) (gives made)) (cond full (leaves t w (refuses 11)) new) refl
-      (cond-long t full (leaves t w (refuses 11)) new refl (setRow-length t (w .rows) r))
-
-  flip-long : (a : Answer (List ℕ)) → Long t (afterFlip g t w a)
-  flip-long (gives r) = store-long r
-  flip-long (refuses n) = cond-long t (eqb n 13) (leaves t (counted w) (gives made)) (leaves t w (refuses n)) refl refl
-
-  try-long : Long t (tryOf g t w)
-  unfolding tryOf
-  try-long =
-      let flipped = g .flip (rowOf (g .words) t (w .step / g .circuits)) (w .step % g .circuits) in
-      cond-long t (eqb (w .step) (w .rows * g .circuits)) (leaves t w (gives done)) (afterFlip g t w flipped) refl (flip-long flipped)
-
-  pub step-long : Long t (stepOf g t w)
-  unfolding stepOf
-  step-long = only-long t w (walkRules g t w) (tryOf g t w) try-long
-
-  pub start-long : (r : List ℕ) → Long t (startOf g t w r)
-  unfolding startOf
-  start-long r = go (g .test r)
+module _ (g : Ground) where
+  pub step-long : (t : List ℕ) (w : WalkRecord) → Long t (stepOf g t w)
+  step-long t w = go (made-dec (stepOf g t w .answer))
     where
-      go : (a : Answer (Unit {0})) → Long t (begin g t w r a)
-      go (gives v) = cond-long t (eqb (capacityOf (g .words) (length t)) 0) (leaves t w (refuses 11)) (leaves (setRow t 0 r) (record { rows = 1; step = 0 }) (gives started)) refl (setRow-length t 0 r)
-      go (refuses n) = refl
+      made-long : {l : Landing Reply} → MadeStep g t w l → Long t l
+      made-long (no-row _) = refl
+      made-long (new-row r f new full) = setRow-length t (w .rows) r
 
-on-long : (t : List ℕ) (l : Landing) (a : Answer Reply) (m : Landing) → Long t l → Long t m → Long t (goOn l a m)
-on-long t l (gives started) m p q = p
-on-long t l (gives made) m p q = q
-on-long t l (gives done) m p q = p
-on-long t l (refuses n) m p q = p
+      go : Dec (stepOf g t w .answer ≡ gives made) → Long t (stepOf g t w)
+      go (yes e) = made-long (step-made-leaves g t w e .1)
+      go (no ne) = rw (step-unmade g t w ne) refl
 
-steps-long : (g : Ground) (b : ℕ) (t : List ℕ) (w : WalkRecord) → Long t (stepsOf g b t w)
-unfolding stepsOf
-steps-long g zero t w = refl
-steps-long g (suc b) t w =
-    let s = stepOf g t w in
-    on-long t s (s .answer) (stepsOf g b (s .table) (s .walk)) (step-long g t w) (steps-long g b (s .table) (s .walk) ∙ step-long g t w)
+  steps-long : (b : ℕ) (t : List ℕ) (w : WalkRecord) → Long t (stepsOf g b t w)
+  steps-long zero t w = rw (steps-none g t w) refl
+  steps-long (suc b) t w = steps-first g b t w (λ e q. rw q (steps-long b (stepOf g t w .table) (stepOf g t w .walk) ∙ step-long t w)) (λ ne q. rw q (step-long t w))
 
-pub run-long : (g : Ground) (t : List ℕ) (w : WalkRecord) (b : ℕ) → Long t (runOf g t w b)
-unfolding runOf
-run-long g t w b = only-long t w (walkRules g t w) (stepsOf g b t w) (steps-long g b t w)
+  pub run-long : (t : List ℕ) (w : WalkRecord) (b : ℕ) → Long t (runOf g t w b)
+  unfolding runOf
+  run-long t w b = only-either t w (Long t) (walkRules g t w) (stepsOf g b t w) (λ n. refl) (steps-long b t w)
+
+  pub start-long : (t : List ℕ) (w : WalkRecord) (r : List ℕ) → Long t (startOf g t w r)
+  start-long t w r = go (startOf g t w r .answer) refl
+    where
+      go : (a : Answer Begun) → startOf g t w r .answer ≡ a → Long t (startOf g t w r)
+      go (refuses n) e = rw (start-keeps g t w r n e) refl
+      go (gives started) e = rw (start-facts g t w r e .2) (setRow-length t 0 r)
+
+-- ---- the words behind the rows
+
+abbrev pub Behind : {A : Type 0} → ℕ → List ℕ → Landing A → Type 0
+Behind k t l = (i : ℕ) → k * capacityOf k (length t) ≤ i → getD (l .table) i 0 ≡ getD t i 0
+
+-- a row below the capacity ends before them
+row-before : (k c n i : ℕ) → n < c → k * c ≤ i → k * n + k ≤ i
+row-before k c n i h l = let e = mul-suc k n in let m = mul-le-mul-left k h in omega arith
+
+module _ (g : Ground) (keeps : Keeps g) where
+  pub step-behind : (t : List ℕ) (w : WalkRecord) → Behind (g .words) t (stepOf g t w)
+  step-behind t w = go (made-dec (stepOf g t w .answer))
+    where
+      made-behind : w .rows ≤ capacityOf (g .words) (length t) → {l : Landing Reply} → MadeStep g t w l → Behind (g .words) t l
+      made-behind fits (no-row _) i h = refl
+      made-behind fits (new-row r f new full) i h = row-behind (g .words) t (w .rows) i r (tried-size g t w keeps r f) (row-before (g .words) (capacityOf (g .words) (length t)) (w .rows) i (omega arith) h)
+
+      go : Dec (stepOf g t w .answer ≡ gives made) → Behind (g .words) t (stepOf g t w)
+      go (yes e) = made-behind (possible-facts _ w _ (step-possible g t w e) .1) (step-made-leaves g t w e .1)
+      go (no ne) = rw (step-unmade g t w ne) (λ i h. refl)
+
+  steps-behind : (b : ℕ) (t : List ℕ) (w : WalkRecord) → Behind (g .words) t (stepsOf g b t w)
+  steps-behind zero t w = rw (steps-none g t w) (λ i h. refl)
+  steps-behind (suc b) t w =
+      steps-first g b t w
+      (λ e q. rw q (λ i h. steps-behind b (stepOf g t w .table) (stepOf g t w .walk) i (rw (step-long g t w) h) ∙ step-behind t w i h))
+      (λ ne q. rw q (step-behind t w))
+
+  pub run-behind : (t : List ℕ) (w : WalkRecord) (b : ℕ) → Behind (g .words) t (runOf g t w b)
+  unfolding runOf
+  run-behind t w b = only-either t w (Behind (g .words) t) (walkRules g t w) (stepsOf g b t w) (λ n i h. refl) (steps-behind b t w)
+
+  pub start-behind : (t : List ℕ) (w : WalkRecord) (r : List ℕ) → length r ≡ g .words → Behind (g .words) t (startOf g t w r)
+  start-behind t w r size = go (startOf g t w r .answer) refl
+    where
+      go : (a : Answer Begun) → startOf g t w r .answer ≡ a → Behind (g .words) t (startOf g t w r)
+      go (refuses n) e = rw (start-keeps g t w r n e) (λ i h. refl)
+      go (gives started) e = let f = start-facts g t w r e in rw (f .2) (λ i h. row-behind (g .words) t 0 i r size (row-before (g .words) (capacityOf (g .words) (length t)) 0 i (f .1) h))

@@ -3,36 +3,33 @@
 --   Kept g r₀ t w      what such a walk keeps: its invariant, room for its rows, and shots that pass
 --   walk-closed        a walk keeps it
 --   walk-tested        its first list passed the test
---   walked-on          so many steps more are a walk too
+--   walked-run         its runs are so many steps
 --   walk-listing       the rows are reached, each once; row by row their flips are listed; and they are all that is reached exactly where a step is done
 --   walk-ends          the walk ends: with done, or with a refusal
 --   lastOf e           all that is left where it ends
 --   ends-from-start    from the start, done comes after exactly rows × C steps
 --   run-ends           a run that is long enough does not answer made
---   run-done           one that answers done has made rows × C steps
---   run-never-started  no run answers started
 --   row-kept           what the first row has and every flip keeps, each row has
 --
 -- Source: demand 3; document 01, "The walk".
-use mathlib.Core.Path.{_≡_, refl, sym, ap, _∙_}
-use mathlib.Core.Logic.{_⊎_, inl, inr, ⊎-elim}
-use mathlib.Core.Bool.{Bool, true, false}
+use mathlib.Core.Path.{_≡_, sym, ap, _∙_}
+use mathlib.Core.Logic.{⊎-elim}
+use mathlib.Core.Bool.{false}
 use mathlib.Core.List.{List}
-use Prim.Native.Nat.{ℕ, zero, suc, _+_, _*_, _/_, _%_, _<_, _≤_}
+use Prim.Native.Nat.{ℕ, zero, suc, _+_, _*_, _/_, _<_, _≤_}
 use native.Mathlib.Omega.{arith}
-use native.Mathlib.Decide.{ℕ-discrete}
 use native.Mathlib.Nat.{min-le-right, mul-le-mul-right}
 use lib.ListN.{length}
-use Rattle.algebra.specs.Answer.{Answer, gives, refuses, refusal}
+use Rattle.algebra.specs.Answer.{gives, refusal}
 use Rattle.algebra.specs.Words.{rowOf, setRow}
 use Rattle.algebra.proofs.AnswerLaws.{given-refused}
-use Rattle.algebra.proofs.WordLaws.{row-length, row-same, row-other, setRow-length}
-use Rattle.reach.specs.Walks.{Ground, WalkRecord, started, made, done, Landing, rowsMost, capacityOf, seenIn, impossible, grown, storeOf, afterFlip, tryOf, stepOf, stepsOf, runOf, startOf}
+use Rattle.algebra.proofs.WordLaws.{row-same, row-other, setRow-length}
+use Rattle.reach.specs.Walks.{Ground, WalkRecord, Begun, started, Reply, made, done, Landing, rowsMost, capacityOf, impossible, tryOf, stepOf, stepsOf, runOf, startOf}
 use Rattle.reach.specs.Reach.{Closed}
+use Rattle.reach.specs.Leaving.{MadeStep, no-row, new-row}
 use Rattle.reach.specs.Walked.{FlipsTo, Sound, Walked, starts, steps, runs, moves, Listing, Ends}
 use Rattle.reach.proofs.ReachLaws.{reach-kept, closed-start, closed-moved, closed-count, closed-new, closed-neighbours, closed-whole}
-use Rattle.reach.proofs.StepLaws.{room-for, seen-stands, unseen, possible-holds, step-passed, run-passed, try-done, try-flip, after-none, after-refused, store-known, store-full, store-new}
-use Rattle.reach.proofs.StepLaws.{start-facts, step-stops, done-end, done-made, started-made, step-never-started}
+use Rattle.reach.proofs.StepLaws.{room-for, possible-holds, step-passed, run-passed, try-done, start-facts, made-dec, tried-size, step-made-leaves, step-unmade, step-stops, done-end}
 use Rattle.reach.proofs.RunLaws.{steps-none, steps-first, steps-count, Stood, steps-stand}
 
 -- ---- any walk
@@ -43,21 +40,13 @@ walk-tested (steps t w h) = walk-tested h
 walk-tested (runs t w b h) = walk-tested h
 walk-tested (moves t t′ w h room same) = walk-tested h
 
-pub walked-on : {g : Ground} {r₀ : List ℕ} (n : ℕ) {t : List ℕ} {w : WalkRecord} → Walked g r₀ t w → Walked g r₀ (stepsOf g n t w .table) (stepsOf g n t w .walk)
-walked-on {g} zero {t} {w} h = rw (steps-none g t w) h
-walked-on {g} (suc n) {t} {w} h = steps-first g n t w (λ e q. rw q (walked-on n (steps t w h))) (λ ne q. rw q (steps t w h))
-
 -- ---- what a walk keeps
 
 abbrev pub Kept : Ground → List ℕ → List ℕ → WalkRecord → Type 0
 Kept g r₀ t w = Closed (g .circuits) (FlipsTo g) r₀ (rowOf (g .words) t) (w .rows) (w .step) × (w .rows ≤ capacityOf (g .words) (length t)) × (refusal (g .before) ≡ 0)
 
--- what the flip answers that a step tries
-abbrev triedOf : Ground → List ℕ → WalkRecord → Answer (List ℕ)
-triedOf g t w = g .flip (rowOf (g .words) t (w .step / g .circuits)) (w .step % g .circuits)
-
 module _ {g : Ground} (sound : Sound g) (r₀ : List ℕ) where
-  abbrev KeptBy : Landing → Type 0
+  abbrev KeptBy : {A : Type 0} → Landing A → Type 0
   KeptBy l = Kept g r₀ (l .table) (l .walk)
 
   -- ---- a step keeps it
@@ -69,42 +58,24 @@ module _ {g : Ground} (sound : Sound g) (r₀ : List ℕ) where
     step-tries : stepOf g t w ≡ tryOf g t w
     step-tries = step-passed g t w (sound .numbered) (k .2) possible
 
-    -- where it is not done, it tries a circuit on a row
-    module _ (l : w .step < w .rows * g .circuits) where
-      kept-new : (r : List ℕ) → triedOf g t w ≡ gives r → seenIn (g .words) t (w .rows) r ≡ false → w .rows < capacityOf (g .words) (length t)
-          → Kept g r₀ (setRow t (w .rows) r) (grown w)
-      kept-new r f e room = (
-        closed-new (k .0) (rowOf (g .words) (setRow t (w .rows) r)) (λ i m. row-other (g .words) t (w .rows) i r size (λ q. omega arith))
-            (row-same (g .words) t (w .rows) r size (room-for (g .words) (length t) (w .rows) room)) (λ x z a b p q. cc) l f (unseen (g .words) t (w .rows) r e),
-        rw setRow-length (omega arith),
-        k .2,
-      )
-        where
-          size : length r ≡ g .words
-          size = sound .keeps (rowOf (g .words) t (w .step / g .circuits)) r (w .step % g .circuits) (row-length (g .words) t (w .step / g .circuits)) f
-
-      kept-store : (r : List ℕ) → triedOf g t w ≡ gives r → KeptBy (storeOf (g .words) t w r)
-      kept-store r f = go (seenIn (g .words) t (w .rows) r) refl (ℕ-discrete (w .rows) (capacityOf (g .words) (length t)))
-        where
-          go : (b : Bool) → seenIn (g .words) t (w .rows) r ≡ b → Dec (w .rows ≡ capacityOf (g .words) (length t)) → KeptBy (storeOf (g .words) t w r)
-          go true e d = rw (store-known (g .words) t w r e) (closed-count (k .0) l (λ x h. let q : r ≡ x = cc in rw q at (seen-stands (g .words) t (w .rows) r e)), k .1, k .2)
-          go false e (yes q) = rw (store-full (g .words) t w r e q) k
-          go false e (no ne) = rw (store-new (g .words) t w r e ne) (kept-new r f e (let h = k .1 in omega arith))
-
-      kept-flip : (x : Answer (List ℕ)) → triedOf g t w ≡ x → KeptBy (afterFlip g t w x)
-      kept-flip (gives r) f = kept-store r f
-      kept-flip (refuses n) f = go (ℕ-discrete n 13)
-        where
-          go : Dec (n ≡ 13) → KeptBy (afterFlip g t w (refuses n))
-          go (yes e) = rw (after-none g t w n e) (closed-count (k .0) l (λ x h. given-refused (sym h ∙ f)), k .1, k .2)
-          go (no ne) = rw (after-refused g t w n ne) k
+    kept-made : {l : Landing Reply} → w .step < w .rows * g .circuits → MadeStep g t w l → KeptBy l
+    kept-made h (no-row p) = (closed-count (k .0) h (λ x f. ⊎-elim (λ none. given-refused (sym f ∙ none)) (λ (r, e, s). let q : r ≡ x = cc in rw q at s) p), k .1, k .2)
+    kept-made h (new-row r f new full) = (
+      closed-new (k .0) (rowOf (g .words) (setRow t (w .rows) r)) (λ i m. row-other (g .words) t (w .rows) i r size (λ q. omega arith))
+          (row-same (g .words) t (w .rows) r size (room-for (g .words) (length t) (w .rows) (let b = k .1 in omega arith))) (λ x z a b p q. cc) h f new,
+      rw setRow-length (let b = k .1 in omega arith),
+      k .2,
+    )
+      where
+        size : length r ≡ g .words
+        size = tried-size g t w (sound .keeps) r f
 
     kept-step : KeptBy (stepOf g t w)
-    kept-step = rw step-tries (go (ℕ-discrete (w .step) (w .rows * g .circuits)))
+    kept-step = go (made-dec (stepOf g t w .answer))
       where
-        go : Dec (w .step ≡ w .rows * g .circuits) → KeptBy (tryOf g t w)
-        go (yes e) = rw (try-done g t w e) k
-        go (no ne) = rw (try-flip g t w ne) (kept-flip (let b = k .0 .below in omega arith) (triedOf g t w) refl)
+        go : Dec (stepOf g t w .answer ≡ gives made) → KeptBy (stepOf g t w)
+        go (yes e) = let (ne, m) = step-made-leaves g t w e in kept-made (let b = k .0 .below in omega arith) m
+        go (no ne) = rw (step-unmade g t w ne) k
 
   -- ---- so do steps and runs, and a start begins with it
 
@@ -129,6 +100,9 @@ module _ {g : Ground} (sound : Sound g) (r₀ : List ℕ) where
     walk-closed (runs t w b h) = rw (run-is-steps t w b (walk-closed h)) (kept-steps b t w (walk-closed h))
     walk-closed (moves t t′ w h room same) = let k = walk-closed h in (closed-moved (rowOf (g .words) t′) same (k .0), room, k .2)
 
+    pub walked-run : {t : List ℕ} {w : WalkRecord} → Walked g r₀ t w → (b : ℕ) → runOf g t w b ≡ stepsOf g b t w
+    walked-run {t} {w} h b = run-is-steps t w b (walk-closed h)
+
     -- ---- the promise
 
     pub walk-listing : {t : List ℕ} {w : WalkRecord} → Walked g r₀ t w → Listing g r₀ t w
@@ -140,14 +114,14 @@ module _ {g : Ground} (sound : Sound g) (r₀ : List ℕ) where
           once = k .0 .once;
           reached = k .0 .reached;
           neighbours = closed-neighbours (k .0);
-          done-at = (done-end g t w, λ e. ap (λ (l : Landing). l .answer) (step-tries t w k ∙ try-done g t w e));
+          done-at = (done-end g t w, λ e. ap (λ (l : Landing Reply). l .answer) (step-tries t w k ∙ try-done g t w e));
           whole = closed-whole (k .0);
         }
 
     pub row-kept : {t : List ℕ} {w : WalkRecord} → Walked g r₀ t w → (P : List ℕ → Type 0)
         → ((r r′ : List ℕ) (z : ℕ) → length r ≡ g .words → P r → z < g .circuits → FlipsTo g r z r′ → P r′) → P r₀ → (p : ℕ) → p < w .rows → P (rowOf (g .words) t p)
     row-kept h P keeps first p l =
-        reach-kept (λ r. (length r ≡ g .words) × P r) (λ r r′ z q m f. (sound .keeps r r′ z (q .0) f, keeps r r′ z (q .0) (q .1) m f)) (size, first) (walk-closed h .0 .reached p l) .1
+        reach-kept (λ r. (length r ≡ g .words) × P r) (λ r r′ q (z, m, f). (sound .keeps r r′ z (q .0) f, keeps r r′ z (q .0) (q .1) m f)) (size, first) (walk-closed h .0 .reached p l) .1
 
     -- ---- the end
 
@@ -163,21 +137,7 @@ module _ {g : Ground} (sound : Sound g) (r₀ : List ℕ) where
         omega arith
 
     pub run-ends : {t : List ℕ} {w : WalkRecord} → Walked g r₀ t w → (b : ℕ) → rowsMost * g .circuits < w .step + b → runOf g t w b .answer ≡ gives made → ⊥
-    run-ends {t} {w} h b l e = let m = steps-most h b (rw (run-is-steps t w b (walk-closed h)) at e) in omega arith
-
-    -- a run that is not only made answers what one more step would
-    run-last : {t : List ℕ} {w : WalkRecord} → Walked g r₀ t w → (b : ℕ)
-        → (runOf g t w b .answer ≡ gives made) ⊎ (runOf g t w b .answer ≡ stepOf g (runOf g t w b .table) (runOf g t w b .walk) .answer)
-    run-last {t} {w} h b = rw (run-is-steps t w b (walk-closed h)) (go (steps-stand g b t w))
-      where
-        go : Stood g t w b (stepsOf g b t w) → (stepsOf g b t w .answer ≡ gives made) ⊎ (stepsOf g b t w .answer ≡ stepOf g (stepsOf g b t w .table) (stepsOf g b t w .walk) .answer)
-        go s = ⊎-elim (λ p. inl (p .1)) (λ p. inr (p .0 ∙ (λ k. stepOf g (sym (s .table-is) k) (sym (s .walk-is) k) .answer))) (s .answer-is)
-
-    pub run-done : {t : List ℕ} {w : WalkRecord} → Walked g r₀ t w → (b : ℕ) → runOf g t w b .answer ≡ gives done → runOf g t w b .walk .step ≡ runOf g t w b .walk .rows * g .circuits
-    run-done h b e = ⊎-elim (λ p. done-made (sym e ∙ p)) (λ p. done-end g _ _ (sym p ∙ e)) (run-last h b)
-
-    pub run-never-started : {t : List ℕ} {w : WalkRecord} → Walked g r₀ t w → (b : ℕ) → runOf g t w b .answer ≡ gives started → ⊥
-    run-never-started h b e = ⊎-elim (λ p. started-made (sym e ∙ p)) (λ p. step-never-started g _ _ (sym p ∙ e)) (run-last h b)
+    run-ends {t} {w} h b l e = let m = steps-most h b (rw (walked-run h b) at e) in omega arith
 
     pub walk-ends : {t : List ℕ} {w : WalkRecord} → Walked g r₀ t w → Ends g t w
     walk-ends {t} {w} h = go (steps-stand g (rowsMost * g .circuits + 1) t w)
@@ -192,12 +152,12 @@ module _ {g : Ground} (sound : Sound g) (r₀ : List ℕ) where
           ends-at = λ e. sym (steps-count g (s .count) t w (s .made-all)) ∙ done-end g _ _ e;
         }
 
-abbrev pub lastOf : {g : Ground} {t : List ℕ} {w : WalkRecord} → Ends g t w → Landing
+abbrev pub lastOf : {g : Ground} {t : List ℕ} {w : WalkRecord} → Ends g t w → Landing Reply
 lastOf {g} {t} {w} e = stepsOf g (e .count) t w
 
 pub ends-from-start : (g : Ground) (t : List ℕ) (w : WalkRecord) (r₀ : List ℕ) → startOf g t w r₀ .answer ≡ gives started → (e : Ends g (startOf g t w r₀ .table) (startOf g t w r₀ .walk))
     → stepOf g (lastOf e .table) (lastOf e .walk) .answer ≡ gives done → e .count ≡ lastOf e .walk .rows * g .circuits
 ends-from-start g t w r₀ a e d =
-    let z : startOf g t w r₀ .walk .step ≡ 0 = ap (λ (l : Landing). l .walk .step) (start-facts g t w r₀ a .2) in
+    let z : startOf g t w r₀ .walk .step ≡ 0 = ap (λ (l : Landing Begun). l .walk .step) (start-facts g t w r₀ a .2) in
     let q = e .ends-at d in
     omega arith

@@ -1,10 +1,11 @@
--- Rows and what is reached from one of them by flips, for any number of circuits and any flip, as a relation.
+-- Rows and what is reached from one of them by flips, for any flip as a relation.
 --
---   Flipping              a flip as a relation: of a row, the number of a circuit and a row
---   Reach C F r₀ r        r is reached from r₀ by flips F along the circuits below C
+--   Reach F r₀ r          r is reached from r₀ by so many flips F, each a relation of two rows
+--   Flipping              a numbered flip as a relation: of a row, the number of a circuit and a row
+--   Along C F r r′        r′ is the flip F of r along one of the circuits below C
 --   Among row n r         r is one of the rows `row 0` to `row (n - 1)`
 --   Stands k t n r        r is one of the first n rows, of k words each, of the table t
---   Closed C F r₀ row n s   the walk's invariant over rows `row 0`, `row 1`, ..: n rows are in use and s steps are made
+--   Closed C F r₀ row n s   the walk's invariant over rows `row 0`, `row 1`, ..: n rows are in use and s steps are made; F is numbered
 --     some, first, below  there is a row, the first is r₀, and s is at most n × C
 --     once                no two rows are the same
 --     reached             each row is reached from r₀
@@ -16,12 +17,15 @@ use mathlib.Core.List.{List}
 use Prim.Native.Nat.{ℕ, _*_, _/_, _%_, _<_, _≤_}
 use Rattle.algebra.specs.Words.{rowOf}
 
+pub data Reach (F : List ℕ → List ℕ → Type 0) (r₀ : List ℕ) : List ℕ → Type 0 where
+  here : Reach F r₀ r₀
+  by-flip : {r r′ : List ℕ} → Reach F r₀ r → F r r′ → Reach F r₀ r′
+
 abbrev pub Flipping : Type 1
 Flipping = List ℕ → ℕ → List ℕ → Type 0
 
-pub data Reach (C : ℕ) (F : Flipping) (r₀ : List ℕ) : List ℕ → Type 0 where
-  here : Reach C F r₀ r₀
-  by-flip : {r r′ : List ℕ} {z : ℕ} → Reach C F r₀ r → z < C → F r z r′ → Reach C F r₀ r′
+abbrev pub Along : ℕ → Flipping → List ℕ → List ℕ → Type 0
+Along C F r r′ = (z : ℕ) × (z < C) × F r z r′
 
 abbrev pub Among : (ℕ → List ℕ) → ℕ → List ℕ → Type 0
 Among row n r = (p : ℕ) × (p < n) × (row p ≡ r)
@@ -34,5 +38,5 @@ pub record Closed (C : ℕ) (F : Flipping) (r₀ : List ℕ) (row : ℕ → List
   pub first : row 0 ≡ r₀
   pub below : s ≤ n * C
   pub once : (i j : ℕ) → i < j → j < n → row i ≡ row j → ⊥
-  pub reached : (i : ℕ) → i < n → Reach C F r₀ (row i)
+  pub reached : (i : ℕ) → i < n → Reach (Along C F) r₀ (row i)
   pub tried : (k : ℕ) → k < s → (r : List ℕ) → F (row (k / C)) (k % C) r → Among row n r

@@ -8,7 +8,7 @@
 --   Listing g r₀ t w      the promise at any time:
 --     possible            there is a row, there is room for the rows, and step ≤ rows × C
 --     first               the first row is r₀
---     once, reached       the rows in use differ from each other, and each is reached from r₀ by flips
+--     once, reached       the rows in use differ from each other, and each is reached from r₀ by flips along the circuits
 --     neighbours          once (p + 1) × C ≤ step, every flip of row p is one of the rows
 --     done-at             a step answers done exactly at step = rows × C
 --     whole               then the rows are exactly what is reached from r₀ by flips
@@ -23,8 +23,8 @@ use Prim.Native.Nat.{ℕ, _+_, _*_, _<_, _≤_}
 use lib.ListN.{length}
 use Rattle.algebra.specs.Answer.{gives, refuses, Numbered, refusal}
 use Rattle.algebra.specs.Words.{rowOf}
-use Rattle.reach.specs.Walks.{Ground, WalkRecord, started, made, done, Landing, capacityOf, stepOf, stepsOf, runOf, startOf}
-use Rattle.reach.specs.Reach.{Flipping, Reach, Stands}
+use Rattle.reach.specs.Walks.{Ground, WalkRecord, Reply, started, made, done, Landing, capacityOf, stepOf, stepsOf, runOf, startOf}
+use Rattle.reach.specs.Reach.{Reach, Flipping, Along, Stands}
 
 abbrev pub FlipsTo : Ground → Flipping
 FlipsTo g r z r′ = g .flip r z ≡ gives r′
@@ -48,12 +48,12 @@ pub record Listing (g : Ground) (r₀ t : List ℕ) (w : WalkRecord) : Type 0 wh
   pub possible : (0 < w .rows) × (w .rows ≤ capacityOf (g .words) (length t)) × (w .step ≤ w .rows * g .circuits)
   pub first : rowOf (g .words) t 0 ≡ r₀
   pub once : (p q : ℕ) → p < q → q < w .rows → rowOf (g .words) t p ≡ rowOf (g .words) t q → ⊥
-  pub reached : (p : ℕ) → p < w .rows → Reach (g .circuits) (FlipsTo g) r₀ (rowOf (g .words) t p)
+  pub reached : (p : ℕ) → p < w .rows → Reach (Along (g .circuits) (FlipsTo g)) r₀ (rowOf (g .words) t p)
   pub neighbours : (p z : ℕ) (r : List ℕ) → (p + 1) * g .circuits ≤ w .step → z < g .circuits → FlipsTo g (rowOf (g .words) t p) z r → Stands (g .words) t (w .rows) r
   pub done-at : (stepOf g t w .answer ≡ gives done) ↔ (w .step ≡ w .rows * g .circuits)
-  pub whole : w .step ≡ w .rows * g .circuits → (r : List ℕ) → Stands (g .words) t (w .rows) r ↔ Reach (g .circuits) (FlipsTo g) r₀ r
+  pub whole : w .step ≡ w .rows * g .circuits → (r : List ℕ) → Stands (g .words) t (w .rows) r ↔ Reach (Along (g .circuits) (FlipsTo g)) r₀ r
 
-abbrev pub Stops : Ground → Landing → Type 0
+abbrev pub Stops : Ground → Landing Reply → Type 0
 Stops g l = (stepOf g (l .table) (l .walk) .answer ≡ gives done) ⊎ ((n : ℕ) × (stepOf g (l .table) (l .walk) .answer ≡ refuses n))
 
 pub record Ends (g : Ground) (t : List ℕ) (w : WalkRecord) : Type 0 where

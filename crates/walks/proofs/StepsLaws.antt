@@ -2,7 +2,7 @@
 --
 --   circuit-on           k steps on, still along the same row, it is the circuit k further on
 --   turn-facts           how many of the b steps that are left are along the row of step s, with c circuits
---   flip-keeps           a flip of the plane keeps the number of words
+--   flip-keeps           a flip of a patch keeps the number of words
 --   is-made, not-made    what the test of an answer says
 --   landed               what a step leaves that writes nothing, from what is handed back
 --   indexed-counted      its index is that of the rows still
@@ -31,7 +31,7 @@ use borrow.Author.Tests.{eqb-true}
 use Rattle.algebra.specs.Answer.{Answer, gives, refuses, refusal}
 use Rattle.algebra.specs.Words.{rowOf}
 use Rattle.algebra.proofs.AnswerLaws.{reflects-true}
-use Rattle.reach.specs.Walks.{WalkRecord, Reply, started, made, done, Landing, leaves, rowsMost, capacityOf, impossible, counted, afterFlip, tryOf, stepOf, goOn, stepsOf, runOf}
+use Rattle.reach.specs.Walks.{WalkRecord, Reply, made, done, Landing, leaves, rowsMost, capacityOf, impossible, counted, afterFlip, tryOf, stepOf, goOn, stepsOf, runOf}
 use Rattle.reach.specs.Walked.{Keeps}
 use Rattle.reach.proofs.ReachLaws.{tried-row}
 use Rattle.reach.proofs.StepLaws.{room-for, possible-facts, step-passed, run-passed, try-done, try-flip, after-refused, Goes, goes-possible}
@@ -40,15 +40,16 @@ use Rattle.shots.specs.Tests.{refusalOf}
 use Rattle.shots.proofs.Patch.{patch-few}
 use Rattle.shots.proofs.Chains.{shots-numbered}
 use Rattle.circuits.specs.Sizes.{circuitsMost}
-use Rattle.circuits.specs.Numbered.{circuitsOf}
+use Rattle.circuits.specs.Numbering.{circuitsOf}
 use Rattle.circuits.proofs.Bounds.{circuits-most}
 use Rattle.triples.specs.Sizes.{wordCount}
 use Rattle.lists.specs.Tests.{pastLast, someFlat, isEmpty, crossing, openEdge, listRefusalOf}
 use Rattle.surfaces.specs.Calls.{flipOf}
-use Rattle.surfaces.proofs.Promises.{accepted-decided, flip-accepted, flip-words}
+use Rattle.lists.proofs.Promises.{accepted-decided}
+use Rattle.surfaces.proofs.Promises.{flip-accepted, flip-words}
 use Rattle.surfaces.proofs.CallChains.{flip-unlisted}
 use Rattle.walks.specs.declared.AfterStep.{AfterStep}
-use Rattle.walks.specs.Calls.{plane, readWalk, readStepped, afterStep, isMade}
+use Rattle.walks.specs.Calls.{groundOf, readWalk, readStepped, afterStep, isMade}
 use Rattle.walks.specs.Going.{Going}
 use Rattle.walks.specs.Index.{Indexed}
 
@@ -75,9 +76,9 @@ turn-facts s c b n h k e =
     let j = le-min {k = 1} {a = b} {b = c - s % c} h (omega arith) in
     (omega arith, omega arith, omega arith)
 
--- ---- flips and lists of the plane
+-- ---- flips and lists of a patch
 
-pub flip-keeps : (l : List ℤ) → Keeps (plane l)
+pub flip-keeps : (l : List ℤ) → Keeps (groundOf l)
 flip-keeps l r r′ z e f = flip-words l r r′ z e f .0
 
 -- no list is refused with 13, the number of a flip that there is not
@@ -95,7 +96,6 @@ list-unflipped l w = go (pastLast l w || someFlat l w) (isEmpty l w) (crossing l
 -- ---- steps that are made
 
 pub is-made : (a : Answer Reply) → isMade a ≡ true → a ≡ gives made
-is-made (gives started) e = absurd (false≢true e)
 is-made (gives made) e = refl
 is-made (gives done) e = absurd (false≢true e)
 is-made (refuses n) e = absurd (false≢true e)
@@ -120,36 +120,36 @@ later w k r = record { rows = r; step = w .step + k }
 pub record SoFar (l : List ℤ) (t : List ℕ) (w : WalkRecord) (b k : ℕ) (u : List ℕ) (r : ℕ) : Type 0 where
   pub most : k ≤ b
   pub lasts : length u ≡ length t
-  pub steps : leaves u (later w k r) (gives made) ≡ stepsOf (plane l) k t w
+  pub steps : leaves u (later w k r) (gives made) ≡ stepsOf (groundOf l) k t w
 
 pub far-none : (l : List ℤ) (t : List ℕ) (w : WalkRecord) (b : ℕ) → SoFar l t w b 0 t (w .rows)
 far-none l t w b = record {
   most = omega arith;
   lasts = refl;
-  steps = ap (λ (s : ℕ). leaves t (record { rows = w .rows; step = s }) (gives made)) (add-zero (w .step)) ∙ sym (steps-none (plane l) t w);
+  steps = ap (λ (s : ℕ). leaves t (record { rows = w .rows; step = s }) (gives made)) (add-zero (w .step)) ∙ sym (steps-none (groundOf l) t w);
 }
 
 module _ {l : List ℤ} {t : List ℕ} {w : WalkRecord} {b k : ℕ} {u : List ℕ} {r : ℕ} (far : SoFar l t w b k u r) where
-  far-goes : Goes (plane l) t w k (leaves u (later w k r) (gives made))
-  far-goes = bundle-goes (plane l) k t w (far .steps) refl
+  far-goes : Goes (groundOf l) t w k (leaves u (later w k r) (gives made))
+  far-goes = bundle-goes (groundOf l) k t w (far .steps) refl
 
   -- the next n leave x
-  module _ (n : ℕ) (h : k + n ≤ b) (x : Landing) (is : x ≡ stepsOf (plane l) n u (later w k r)) where
+  module _ (n : ℕ) (h : k + n ≤ b) (x : Landing Reply) (is : x ≡ stepsOf (groundOf l) n u (later w k r)) where
     pub far-on : x .answer ≡ gives made → length (x .table) ≡ length u → SoFar l t w b (k + n) (x .table) (x .walk .rows)
     far-on e kept = record {
       most = h;
       lasts = kept ∙ far .lasts;
-      steps = (λ i. leaves (x .table) (record { rows = x .walk .rows; step = sym (bundle-goes (plane l) (k + n) t w all e .counts) i }) (sym e i)) ∙ all;
+      steps = (λ i. leaves (x .table) (record { rows = x .walk .rows; step = sym (bundle-goes (groundOf l) (k + n) t w all e .counts) i }) (sym e i)) ∙ all;
     }
       where
-        all : x ≡ stepsOf (plane l) (k + n) t w
-        all = is ∙ ap (λ (m : Landing). goOn m (m .answer) (stepsOf (plane l) n (m .table) (m .walk))) (far .steps) ∙ sym (steps-add (plane l) k n t w)
+        all : x ≡ stepsOf (groundOf l) (k + n) t w
+        all = is ∙ ap (λ (m : Landing Reply). goOn m (m .answer) (stepsOf (groundOf l) n (m .table) (m .walk))) (far .steps) ∙ sym (steps-add (groundOf l) k n t w)
 
-    pub far-stop : (x .answer ≡ gives made → ⊥) → x ≡ stepsOf (plane l) b t w
-    far-stop ne = sym (bundle-made (plane l) t w k b (far .most) _ (far .steps) refl ∙ bundle-stop (plane l) u (later w k r) n (b - k) (omega arith) x is ne)
+    pub far-stop : (x .answer ≡ gives made → ⊥) → x ≡ stepsOf (groundOf l) b t w
+    far-stop ne = sym (bundle-made (groundOf l) t w k b (far .most) _ (far .steps) refl ∙ bundle-stop (groundOf l) u (later w k r) n (b - k) (omega arith) x is ne)
 
-  pub far-all : b ≤ k → leaves u (later w b r) (gives made) ≡ stepsOf (plane l) b t w
-  far-all h = subst (λ (n : ℕ). leaves u (later w n r) (gives made) ≡ stepsOf (plane l) n t w) (le-antisymm (far .most) h) (far .steps)
+  pub far-all : b ≤ k → leaves u (later w b r) (gives made) ≡ stepsOf (groundOf l) b t w
+  far-all h = subst (λ (n : ℕ). leaves u (later w n r) (gives made) ≡ stepsOf (groundOf l) n t w) (le-antisymm (far .most) h) (far .steps)
 
   pub far-written : refusalOf l ≡ 0 → w .rows ≤ capacityOf wordCount (length t) → (p : ℕ) → w .rows ≤ p → p < r → listRefusalOf l (rowOf wordCount u p) ≡ 0
   far-written ok room p h i = let (x, z, size, e) = far-goes .wrote (flip-keeps l) room p h i in eqb-true _ 0 (reflects-true (accepted-decided l ok (rowOf wordCount u p)) (flip-accepted l x (rowOf wordCount u p) z size e))
@@ -201,26 +201,26 @@ module _ {l : List ℤ} {plus minus held : List ℕ} {c : ℕ} {t : List ℕ} {w
 
   -- ---- a run and a step, which the first rules let pass
 
-  step-tries : stepOf (plane l) t w ≡ tryOf (plane l) t w
+  step-tries : stepOf (groundOf l) t w ≡ tryOf (groundOf l) t w
   unfolding refusalOf
-  step-tries = step-passed (plane l) t w (shots-numbered l) (going .patch) possible-here
+  step-tries = step-passed (groundOf l) t w (shots-numbered l) (going .patch) possible-here
 
-  pub run-steps : (b : ℕ) → stepsOf (plane l) b t w ≡ runOf (plane l) t w b
+  pub run-steps : (b : ℕ) → stepsOf (groundOf l) b t w ≡ runOf (groundOf l) t w b
   unfolding refusalOf
-  run-steps b = sym (run-passed (plane l) t w b (shots-numbered l) (going .patch) possible-here)
+  run-steps b = sym (run-passed (groundOf l) t w b (shots-numbered l) (going .patch) possible-here)
 
-  pub step-ends : w .step ≡ w .rows * c → stepOf (plane l) t w ≡ leaves t w (gives done)
-  step-ends e = step-tries ∙ try-done (plane l) t w (e ∙ ap (λ (n : ℕ). w .rows * n) (going .circuits))
+  pub step-ends : w .step ≡ w .rows * c → stepOf (groundOf l) t w ≡ leaves t w (gives done)
+  step-ends e = step-tries ∙ try-done (groundOf l) t w (e ∙ ap (λ (n : ℕ). w .rows * n) (going .circuits))
 
-  pub step-along : (r : List ℕ) → w .step < w .rows * c → r ≡ rowOf wordCount t (w .step / c) → stepOf (plane l) t w ≡ afterFlip (plane l) t w (flipOf l r (w .step % c))
+  pub step-along : (r : List ℕ) → w .step < w .rows * c → r ≡ rowOf wordCount t (w .step / c) → stepOf (groundOf l) t w ≡ afterFlip (groundOf l) t w (flipOf l r (w .step % c))
   step-along r h e =
-      step-tries ∙ try-flip (plane l) t w (λ q. let i = q ∙ ap (λ (n : ℕ). w .rows * n) (sym (going .circuits)) in omega arith)
-      ∙ (λ k. afterFlip (plane l) t w (flipOf l (row (going .circuits) k) (w .step % sym (going .circuits) k)))
+      step-tries ∙ try-flip (groundOf l) t w (λ q. let i = q ∙ ap (λ (n : ℕ). w .rows * n) (sym (going .circuits)) in omega arith)
+      ∙ (λ k. afterFlip (groundOf l) t w (flipOf l (row (going .circuits) k) (w .step % sym (going .circuits) k)))
     where
       row : {n : ℕ} → c ≡ n → rowOf wordCount t (w .step / n) ≡ r
       row q = ap (λ (n : ℕ). rowOf wordCount t (w .step / n)) (sym q) ∙ sym e
 
-  pub step-unlisted : (r : List ℕ) {n : ℕ} → w .step < w .rows * c → r ≡ rowOf wordCount t (w .step / c) → n ≡ listRefusalOf l r → (n ≡ 0 → ⊥) → stepOf (plane l) t w ≡ leaves t w (refuses n)
+  pub step-unlisted : (r : List ℕ) {n : ℕ} → w .step < w .rows * c → r ≡ rowOf wordCount t (w .step / c) → n ≡ listRefusalOf l r → (n ≡ 0 → ⊥) → stepOf (groundOf l) t w ≡ leaves t w (refuses n)
   step-unlisted r {n} h e f ne =
-      step-along r h e ∙ ap (afterFlip (plane l) t w) (sym (flip-unlisted l r (w .step % c) (sym (going .patch)) refl f ne))
-      ∙ after-refused (plane l) t w n (λ q. list-unflipped l r (sym f ∙ q))
+      step-along r h e ∙ ap (afterFlip (groundOf l) t w) (sym (flip-unlisted l r (w .step % c) (sym (going .patch)) refl f ne))
+      ∙ after-refused (groundOf l) t w n (λ q. list-unflipped l r (sym f ∙ q))

@@ -1,16 +1,16 @@
--- Demand 3 for a patch: what a walk has written is what specs/Surfaces promises.
+-- Demand 3 for a patch: what the walk's calls have written is what specs/Demand promises.
 --
---   plane-sound          a patch is a ground that the theorem of the room `reach` speaks of
---   flip-is-published    on an accepted list the flip is the published one
---   reach-published      so what is reached by the flip is what is reached by published flips
+--   patch-sound          a patch is a ground that the theorem of the room `reach` speaks of
+--   flip-is-published    of an accepted list the flips along the patch's numbered circuits are the published flips, along any published circuit
+--   reach-published      so what is reached by the one is what is reached by the other
 --   reach-bare           and by published flips of whose results nothing is asked
---   walk-surfaces        a table and a record that an accepted start and its walk's steps and runs have written keep the promise
---   walk-whole           where its walk is done, its rows are what such flips reach
---   walk-length          from an accepted start the walk ends, with the promise kept; and where it is not refused, after exactly (surfaces found) × C steps
+--   walk-surfaces        a table and a record that an accepted start and its walk's steps and runs have written: the demand's conclusions
+--   walk-whole           where its walk is done, its rows are what flips reach of whose results nothing is asked
+--   demand-3             the same of what the calls left: an accepted `start`, and then `step` and `run`
 --
 -- For any flip: reach/proofs/Theorem. Source: demand 3; document 01, "The walk".
-use mathlib.Core.Path.{_≡_, refl, _∙_}
-use mathlib.Core.Logic.{_↔_}
+use mathlib.Core.Path.{_≡_, refl, sym, _∙_, ap, subst}
+use mathlib.Core.Logic.{⊎-elim, _↔_}
 use mathlib.Core.List.{List}
 use Prim.Native.Nat.{ℕ, _*_, _<_}
 use native.Mathlib.Omega.{arith}
@@ -18,106 +18,177 @@ use lib.ListN.{length}
 use lib.IntN.{ℤ}
 use Rattle.algebra.specs.Answer.{gives, Clear}
 use Rattle.algebra.specs.Words.{Words, rowOf}
-use Rattle.reach.specs.Walks.{WalkRecord, started, done, stepOf, startOf}
-use Rattle.reach.specs.Reach.{Reach, Stands}
-use Rattle.reach.specs.Walked.{FlipsTo, Sound, Walked, starts, Listing, Ends}
+use Rattle.reach.specs.Walks.{WalkRecord, Begun, started, Reply, Landing, leaves, startOf}
+use Rattle.reach.specs.Reach.{Reach, Along, Stands}
+use Rattle.reach.specs.Walked.{FlipsTo, Sound, Walked, starts, steps, runs, moves, Listing, Ends}
 use Rattle.reach.proofs.ReachLaws.{reach-as, tried-all}
-use Rattle.reach.proofs.Theorem.{walk-tested, walked-on, walk-listing, row-kept, walk-ends, lastOf, ends-from-start}
+use Rattle.reach.proofs.Theorem.{walk-tested, walked-run, walk-listing, row-kept, walk-ends, lastOf, ends-from-start}
+use Rattle.shots.specs.Patch.{countOf}
 use Rattle.shots.specs.Tests.{refusalOf}
 use Rattle.shots.specs.Lines.{shotLines}
 use Rattle.shots.proofs.Chains.{shots-numbered}
-use Rattle.circuits.specs.Numbered.{circuitsOf}
+use Rattle.circuits.specs.Numbering.{circuitsOf}
+use Rattle.circuits.proofs.Promises.{number-signs, circuit-given}
 use Rattle.triples.specs.Sizes.{wordCount}
-use Rattle.lists.proofs.Promises.{shots-kept, test-accepts}
+use Rattle.triples.specs.Sets.{wordsOf}
+use Rattle.triples.specs.declared.Triples.{Triples}
+use Rattle.shots.proofs.Promises.{shots-kept}
+use Rattle.lists.proofs.Promises.{test-accepts}
 use Rattle.surfaces.specs.Areas.{areaSumOf}
-use Rattle.surfaces.specs.Lines.{Accepted}
-use Rattle.surfaces.proofs.Promises.{flip-accepted, flip-published, flip-words}
+use Rattle.lists.specs.Lines.{Accepted}
+use Rattle.surfaces.proofs.Promises.{flip-accepted, flip-published, flip-any, flip-words}
 use Rattle.surfaces.proofs.AreaKept.{flip-keeps-area}
-use Rattle.walks.specs.Calls.{plane}
-use Rattle.walks.specs.Surfaces.{PublishedFlip, Reachable, Surfaces}
+use Rattle.walks.specs.Calls.{groundOf, readWalk, walkAs, startLanding, startCallOf}
+use Rattle.walks.specs.Surfaces.{PublishedFlip, Reachable}
 use Rattle.walks.specs.Reached.{BareFlip, BareReach}
+use Rattle.walks.specs.Demand.{Later, at-once, by-step, by-run, moved, StepsMade, StepDone, NoStepRefused, Demand-3}
+use Rattle.walks.specs.declared.Walk.{Walk}
+use Rattle.walks.specs.declared.Started.the-variants as B
 use Rattle.walks.proofs.StepsLaws.{flip-keeps}
 
 -- ---- the ground of a patch
 
-pub plane-sound : (l : List ℤ) → Sound (plane l)
+pub patch-sound : (l : List ℤ) → Sound (groundOf l)
 unfolding refusalOf
-plane-sound l = record {
+patch-sound l = record {
   numbered = shots-numbered l;
   keeps = flip-keeps l;
-  passes = λ w e. shots-kept l (test-accepts l w .0 e .0);
+  passes = λ w e. shots-kept l .0 (test-accepts l w .0 e .0);
 }
 
 -- ---- the published flips
 
-module _ (l : List ℤ) where
+module _ (l : List ℤ) (c : Clear (shotLines l)) where
+  abbrev n : ℕ
+  n = countOf l
+
+  abbrev NumberedFlip : List ℕ → List ℕ → Type 0
+  NumberedFlip = Along (length (circuitsOf l)) (FlipsTo (groundOf l))
+
   abbrev Good : List ℕ → Type 0
   Good w = Accepted l w × Words wordCount w
 
-  pub flip-is-published : Clear (shotLines l) → (w w′ : List ℕ) (z : ℕ) → z < length (circuitsOf l) → Accepted l w → Words wordCount w → FlipsTo (plane l) w z w′ ↔ PublishedFlip l w z w′
-  flip-is-published c w w′ z h a v = (
-    λ e. let v′ = flip-words l w w′ z (v .0) e in let (_, _, _, f, _) = flip-published l w w′ z v v′ .0 e in (f, v′, flip-accepted l w w′ z (v .0) e),
-    λ (f, v′, a′). flip-published l w w′ z v v′ .1 (c, a, h, f, a′ .0),
-  )
+  module _ (w w′ : List ℕ) (good : Good w) where
+    bare-flips : BareFlip l w w′ → NumberedFlip w w′
+    bare-flips (X, x, f, v′, k) = let (z, e) = flip-any l c w w′ (good .0) (good .1) v′ .1 (X, x, f, k) in (z, flip-published l w w′ z (good .1) v′ .0 e .2, e)
 
-  bare-published : Clear (shotLines l) → (w w′ : List ℕ) (z : ℕ) → z < length (circuitsOf l) → Accepted l w → Words wordCount w → BareFlip l w z w′ → PublishedFlip l w z w′
-  bare-published c w w′ z h a v (f, v′, k) = (f, v′, flip-accepted l w w′ z (v .0) (flip-published l w w′ z v v′ .1 (c, a, h, f, k)))
+    flips-published : NumberedFlip w w′ → PublishedFlip l w w′
+    flips-published (z, h, e) =
+        let v′ = flip-words l w w′ z (good .1 .0) e in
+        let (X, x, f, _) = flip-any l c w w′ (good .0) (good .1) v′ .0 (z, e) in
+        (X, x, f, v′, flip-accepted l w w′ z (good .1 .0) e)
 
-  pub reach-published : (w₀ : List ℕ) → Clear (shotLines l) → Accepted l w₀ → Words wordCount w₀ → (w : List ℕ) → Reach (length (circuitsOf l)) (FlipsTo (plane l)) w₀ w ↔ Reachable l w₀ w
-  reach-published w₀ c a₀ v₀ w = (
-    λ h. reach-as {G = PublishedFlip l} Good (λ x y z (a, v) m e. let (f, v′, a′) = flip-is-published c x y z m a v .0 e in ((a′, v′), (f, v′, a′))) (a₀, v₀) h .1,
-    λ h. reach-as {G = FlipsTo (plane l)} Good (λ x y z (a, v) m (f, v′, a′). ((a′, v′), flip-is-published c x y z m a v .1 (f, v′, a′))) (a₀, v₀) h .1,
-  )
+  published-bare : (w w′ : List ℕ) → PublishedFlip l w w′ → BareFlip l w w′
+  published-bare w w′ (X, x, f, v′, a′) = (X, x, f, v′, a′ .0)
 
-  pub reach-bare : (w₀ : List ℕ) → Clear (shotLines l) → Accepted l w₀ → Words wordCount w₀ → (w : List ℕ) → Reachable l w₀ w ↔ BareReach l w₀ w
-  reach-bare w₀ c a₀ v₀ w = (
-    λ h. reach-as {G = BareFlip l} Good (λ x y z _ m (f, v′, a′). ((a′, v′), (f, v′, a′ .0))) (a₀, v₀) h .1,
-    λ h. reach-as {G = PublishedFlip l} Good (λ x y z (a, v) m e. let (f, v′, a′) = bare-published c x y z m a v e in ((a′, v′), (f, v′, a′))) (a₀, v₀) h .1,
-  )
+  pub flip-is-published : (w w′ : List ℕ) → Accepted l w → Words wordCount w → Along (length (circuitsOf l)) (FlipsTo (groundOf l)) w w′ ↔ PublishedFlip l w w′
+  flip-is-published w w′ a v = (flips-published w w′ (a, v), λ p. bare-flips w w′ (a, v) (published-bare w w′ p))
+
+  -- what it leads to is good again
+  module _ (w₀ : List ℕ) (good : Good w₀) (w : List ℕ) where
+    published-reach : Reach NumberedFlip w₀ w → Reachable l w₀ w
+    published-reach h = reach-as {G = PublishedFlip l} Good (λ x y q e. let p = flips-published x y q e in ((p .4, p .3), p)) good h .1
+
+    numbered-reach : BareReach l w₀ w → Reach NumberedFlip w₀ w
+    numbered-reach h = reach-as {G = NumberedFlip} Good (λ x y q b. let e = bare-flips x y q b in let p = flips-published x y q e in ((p .4, p .3), e)) good h .1
+
+    bare-reach : Reachable l w₀ w → BareReach l w₀ w
+    bare-reach h = reach-as {G = BareFlip l} Good (λ x y _ p. ((p .4, p .3), published-bare x y p)) good h .1
+
+  pub reach-published : (w₀ : List ℕ) → Accepted l w₀ → Words wordCount w₀ → (w : List ℕ) → Reach (Along (length (circuitsOf l)) (FlipsTo (groundOf l))) w₀ w ↔ Reachable l w₀ w
+  reach-published w₀ a₀ v₀ w = (published-reach w₀ (a₀, v₀) w, λ h. numbered-reach w₀ (a₀, v₀) w (bare-reach w₀ (a₀, v₀) w h))
+
+  pub reach-bare : (w₀ : List ℕ) → Accepted l w₀ → Words wordCount w₀ → (w : List ℕ) → Reachable l w₀ w ↔ BareReach l w₀ w
+  reach-bare w₀ a₀ v₀ w = (bare-reach w₀ (a₀, v₀) w, λ h. published-reach w₀ (a₀, v₀) w (numbered-reach w₀ (a₀, v₀) w h))
 
 -- ---- what a walk has written
 
 module _ (l : List ℤ) (w₀ : List ℕ) (v₀ : Words wordCount w₀) where
+  abbrev WalkedTo : List ℕ → Walk → Type 0
+  WalkedTo u v = Walked (groundOf l) w₀ u (readWalk v)
+
   -- the list that it began with was accepted
-  first-row : {t : List ℕ} {r : WalkRecord} → Walked (plane l) w₀ t r → Clear (shotLines l) × Accepted l w₀
+  first-row : {u : List ℕ} {w : WalkRecord} → Walked (groundOf l) w₀ u w → Clear (shotLines l) × Accepted l w₀
   first-row h = let (c, p, g) = test-accepts l w₀ .0 (walk-tested h) in (c, (p, g))
 
-  pub walk-surfaces : (t : List ℕ) (r : WalkRecord) → Walked (plane l) w₀ t r → Surfaces l w₀ t r
-  walk-surfaces t r h = record {
-    first = listing .first;
-    accepted = λ p m. kept p m .0;
-    one-area = λ p m. kept p m .2;
-    once = listing .once;
-    neighbours = λ p z w a m f.
-        let (good, words, _) = kept p (tried-all p (r .rows) (r .step) (length (circuitsOf l)) (omega arith) a (listing .possible .2)) in
-        listing .neighbours p z w a m (flip-is-published l (first .0) (rowOf wordCount t p) w z m good words .1 f);
-    done-at = listing .done-at;
-    whole = λ e w. let s = listing .whole e w in let q = reach-published l w₀ (first .0) (first .1) v₀ w in (λ x. q .0 (s .0 x), λ x. s .1 (q .1 x));
-    ends = walk-ends (plane-sound l) w₀ (v₀ .0) h;
-  }
-    where
-      listing : Listing (plane l) w₀ t r
-      listing = walk-listing (plane-sound l) w₀ (v₀ .0) h
+  -- where it ends
+  module _ (u : List ℕ) (v : Walk) (h : WalkedTo u v) where
+    abbrev TheEnd : Type 0
+    TheEnd = Ends (groundOf l) u (readWalk v)
 
-      first : Clear (shotLines l) × Accepted l w₀
-      first = first-row h
+    the-end : TheEnd
+    the-end = walk-ends (patch-sound l) w₀ (v₀ .0) h
 
-      kept : (p : ℕ) → p < r .rows → Accepted l (rowOf wordCount t p) × Words wordCount (rowOf wordCount t p) × (areaSumOf l (rowOf wordCount t p) ≡ areaSumOf l w₀)
-      kept = row-kept (plane-sound l) w₀ (v₀ .0) h (λ w. Accepted l w × Words wordCount w × (areaSumOf l w ≡ areaSumOf l w₀))
-          (λ w w′ z _ (a, v, q) m e. (flip-accepted l w w′ z (v .0) e, flip-words l w w′ z (v .0) e, flip-keeps-area l w w′ z v e ∙ q)) (first .1, v₀, refl)
+    made-to : (e : TheEnd) → StepsMade l u v (e .count) (lastOf e .table) (walkAs (lastOf e .walk))
+    made-to e = ap (leaves (lastOf e .table) (lastOf e .walk)) (sym (e .made-all)) ∙ sym (walked-run (patch-sound l) w₀ (v₀ .0) h (e .count))
 
-  pub walk-whole : (t : List ℕ) (r : WalkRecord) → Walked (plane l) w₀ t r → r .step ≡ r .rows * length (circuitsOf l) → (w : List ℕ) → Stands wordCount t (r .rows) w ↔ BareReach l w₀ w
-  walk-whole t r h e w =
+    -- no step is refused: so it is done
+    done-there : NoStepRefused l u v → (e : TheEnd) → StepDone l (lastOf e .table) (walkAs (lastOf e .walk))
+    done-there none e = ⊎-elim (λ d. d) (λ r. absurd (none (e .count) (lastOf e .table) (walkAs (lastOf e .walk)) (made-to e) r)) (e .stops)
+
+  -- t₀ and r₀ are what the start was lent
+  module _ (t₀ : List ℕ) (r₀ : WalkRecord) (begun : startOf (groundOf l) t₀ r₀ w₀ .answer ≡ gives started) where
+    abbrev t : List ℕ
+    t = startOf (groundOf l) t₀ r₀ w₀ .table
+
+    abbrev r : Walk
+    r = walkAs (startOf (groundOf l) t₀ r₀ w₀ .walk)
+
+    pub walk-surfaces : (u : List ℕ) (v : Walk) → Walked (groundOf l) w₀ u (readWalk v) → Demand-3 l w₀ (startOf (groundOf l) t₀ r₀ w₀ .table) (walkAs (startOf (groundOf l) t₀ r₀ w₀ .walk)) u v
+    walk-surfaces u v h = record {
+      patch = first .0;
+      surface = first .1;
+      ends = λ none.
+          let b = starts t₀ r₀ begun in
+          let e = the-end t r b in
+          let d = done-there t r b none e in
+          (e .count, lastOf e .table, walkAs (lastOf e .walk), made-to t r b e, d, ends-from-start (groundOf l) t₀ r₀ w₀ begun e d);
+      ends-later = λ none. let e = the-end u v h in let d = done-there u v h none e in (e .count, lastOf e .table, walkAs (lastOf e .walk), made-to u v h e, d, e .ends-at d);
+      stops = let e = the-end u v h in (e .count, lastOf e .table, walkAs (lastOf e .walk), made-to u v h e, e .stops);
+      done-at = listing .done-at;
+      whole = λ e w. let s = listing .whole e w in let q = reach-published l (first .0) w₀ (first .1) v₀ w in (λ x. q .0 (s .0 x), λ x. s .1 (q .1 x));
+      once = listing .once;
+      accepted = λ p m. kept p m .0;
+      first = listing .first;
+      one-area = λ p m. kept p m .2;
+      neighbours = λ p w a (X, x, f, v′, a′).
+          let (i, g, _) = circuit-given l (first .0) X x in
+          let m = number-signs l X i g .0 in
+          let (good, words, _) = kept p (tried-all p (v .rows) (v .step) (length (circuitsOf l)) (omega arith) a (listing .possible .2)) in
+          let (z, k, e) = flip-is-published l (first .0) (rowOf wordCount u p) w good words .1 (X, x, f, v′, a′) in
+          listing .neighbours p z w a k e;
+    }
+      where
+        listing : Listing (groundOf l) w₀ u (readWalk v)
+        listing = walk-listing (patch-sound l) w₀ (v₀ .0) h
+
+        first : Clear (shotLines l) × Accepted l w₀
+        first = first-row h
+
+        kept : (p : ℕ) → p < v .rows → Accepted l (rowOf wordCount u p) × Words wordCount (rowOf wordCount u p) × (areaSumOf l (rowOf wordCount u p) ≡ areaSumOf l w₀)
+        kept = row-kept (patch-sound l) w₀ (v₀ .0) h (λ w. Accepted l w × Words wordCount w × (areaSumOf l w ≡ areaSumOf l w₀))
+            (λ w w′ z _ (a, x, q) m e. (flip-accepted l w w′ z (x .0) e, flip-words l w w′ z (x .0) e, flip-keeps-area l w w′ z x e ∙ q)) (first .1, v₀, refl)
+
+  pub walk-whole : (u : List ℕ) (w : WalkRecord) → Walked (groundOf l) w₀ u w → w .step ≡ w .rows * length (circuitsOf l) → (w′ : List ℕ) → Stands wordCount u (w .rows) w′ ↔ BareReach l w₀ w′
+  walk-whole u w h e w′ =
       let (c, a) = first-row h in
-      let s = walk-surfaces t r h .whole e w in
-      let q = reach-bare l w₀ c a v₀ w in
-      (λ x. q .0 (s .0 x), λ x. s .1 (q .1 x))
+      let s = walk-listing (patch-sound l) w₀ (v₀ .0) h .whole e w′ in
+      let q = reach-published l c w₀ a v₀ w′ in
+      let b = reach-bare l c w₀ a v₀ w′ in
+      (λ x. b .0 (q .0 (s .0 x)), λ x. s .1 (q .1 (b .1 x)))
 
-  pub walk-length : (t : List ℕ) (r : WalkRecord) → startOf (plane l) t r w₀ .answer ≡ gives started
-      → (e : Ends (plane l) (startOf (plane l) t r w₀ .table) (startOf (plane l) t r w₀ .walk))
-      × Surfaces l w₀ (lastOf e .table) (lastOf e .walk)
-      × (stepOf (plane l) (lastOf e .table) (lastOf e .walk) .answer ≡ gives done → e .count ≡ lastOf e .walk .rows * length (circuitsOf l))
-  walk-length t r a =
-      let begun = starts t r a in
-      let e = walk-ends (plane-sound l) w₀ (v₀ .0) begun in
-      (e, walk-surfaces (lastOf e .table) (lastOf e .walk) (walked-on (e .count) begun), ends-from-start (plane l) t r w₀ a e)
+-- ---- the demand
+
+later-walked : {l : List ℤ} {w₀ t : List ℕ} {r : Walk} {u : List ℕ} {v : Walk} → Walked (groundOf l) w₀ t (readWalk r) → Later l t r u v → Walked (groundOf l) w₀ u (readWalk v)
+later-walked h at-once = h
+later-walked {l} {w₀} h (by-step k a u′ v′ e) = subst (λ (x : Landing Reply). Walked (groundOf l) w₀ (x .table) (x .walk)) (sym e) (steps _ _ (later-walked h k))
+later-walked {l} {w₀} h (by-run k b a u′ v′ e) = subst (λ (x : Landing Reply). Walked (groundOf l) w₀ (x .table) (x .walk)) (sym e) (runs _ _ b (later-walked h k))
+later-walked h (moved k u′ room same) = moves _ u′ _ (later-walked h k) room same
+
+-- `Words`: the list is two words of 64 bits, as every list of the code is
+pub demand-3 : (l : List ℤ) (s : Triples) → Words wordCount (wordsOf s) → (t₀ : List ℕ) (r₀ : Walk) (t : List ℕ) (r : Walk) → startLanding B.Started r t ≡ startCallOf l s t₀ r₀
+    → (u : List ℕ) (v : Walk) → Later l t r u v → Demand-3 l (wordsOf s) t r u v
+demand-3 l s v₀ t₀ r₀ t r begun u v k =
+    let a = ap (λ (x : Landing Begun). x .answer) (sym begun) in
+    let h = subst (λ (x : Landing Begun). Walked (groundOf l) (wordsOf s) (x .table) (x .walk)) (sym begun) (starts t₀ (readWalk r₀) a) in
+    subst (λ (x : Landing Begun). Demand-3 l (wordsOf s) (x .table) (walkAs (x .walk)) u v) (sym begun) (walk-surfaces l (wordsOf s) v₀ t₀ (readWalk r₀) a u v (later-walked h k))

@@ -9,7 +9,7 @@ use lib.ListN.{length}
 use lib.IntN.{ℤ}
 use Rattle.reach.specs.Walks.{WalkRecord, capacityOf, impossible}
 use Rattle.shots.specs.Tests.{refusalOf}
-use Rattle.circuits.specs.Numbered.{circuitsOf}
+use Rattle.circuits.specs.Numbering.{circuitsOf}
 use Rattle.triples.specs.Sizes.{wordCount}
 use Rattle.ready.specs.Ready.{Ready}
 

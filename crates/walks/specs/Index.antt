@@ -1,7 +1,7 @@
 -- The index that a run keeps over the rows of its table.
 --
 --   spots, indexedMost     the places of the index, and how many rows it covers: the first ones
---   spotOf w               the place of a row by its words
+--   spotOf w               the place of a row by its words; `spotFrom a w`: with those before it worked into a
 --   latestOf t s m         the last of the first m rows of the table t that has the place s, as its number plus 1; 0 where none has
 --   coveredOf n            how many of n rows the index covers
 --   notedOf x p w          the index x with row p, the words w, put in

@@ -4,3 +4,4 @@ pub mod Going
 pub mod Lines
 pub mod Surfaces
 pub mod Reached
+pub mod Demand

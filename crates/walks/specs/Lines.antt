@@ -1,89 +1,44 @@
--- The lines of document 01's table of refusals that this room's calls can give, as statements.
+-- The lines of document 01's table of refusals that this room's calls can give, as statements: those of the room `reach`, over a patch.
 --
---   during A ls           the lines ls, each only where A holds
---   NoRoom t              11 at a start: the table has not one whole row
+--   linesOf l             what the refusals of a patch say: of its shots, of a list, and of a flip, which the row's list can refuse
 --   startLines l w t      the table of `start`
---   Impossible l t r      15: rows 0, or beyond capacity, or the step number above rows × C
 --   walkLines l t r       what a step and a run test first
---   Ahead l r             the walk is not done: a row and a circuit are left to try
---   rowAt l t r, circuitOf l r    that row and that circuit
---   resultOf l t r        the list that the flip leads to
---   Flips l t r           there is a flip
---   New l t r, Full t r   its result is none of the rows in use; there is no row for it
 --   stepLines l t r       the table of `step`
 --   RunRefuses l t r b n  the run is: at its first tests, or at a step after k steps that were made
 --
--- The theorems: proofs/Promises. Source: document 01, "The walk", "Refusal numbers".
-use mathlib.Core.Path.{_≡_}
-use mathlib.Core.Logic.{_⊎_}
-use mathlib.Core.List.{List, [], _∷_, _++_}
-use Prim.Native.Nat.{ℕ, _*_, _/_, _%_, _<_}
-use lib.ListN.{length}
+-- What each line says: reach/specs/Lines. The theorems: proofs/Promises. Source: document 01, "The walk", "Refusal numbers".
+use mathlib.Core.List.{List}
+use Prim.Native.Nat.{ℕ}
 use lib.IntN.{ℤ}
-use Rattle.algebra.specs.Answer.{gives, Line, First, Clear}
-use Rattle.algebra.specs.Words.{rowOf}
-use Rattle.reach.specs.Walks.{WalkRecord, made, capacityOf, stepsOf}
-use Rattle.reach.specs.Reach.{Stands}
+use Rattle.algebra.specs.Answer.{Line}
+use Rattle.reach.specs.Walks.{WalkRecord}
+use Rattle.reach.specs.Lines.{Lines}
+use Rattle.reach.specs.Lines as reach
 use Rattle.shots.specs.Patch.{countOf}
 use Rattle.shots.specs.Lines.{shotLines}
-use Rattle.circuits.specs.Numbered.{circuitsOf}
 use Rattle.circuits.specs.Calls.{circuitAt}
-use Rattle.triples.specs.Sizes.{wordCount}
-use Rattle.lists.specs.Lines.{listLines, testLines}
+use Rattle.lists.specs.Lines.{listLines}
 use Rattle.surfaces.specs.Flips.{flippedOf}
 use Rattle.surfaces.specs.Lines.{NoFlip}
-use Rattle.walks.specs.Calls.{plane}
+use Rattle.walks.specs.Calls.{groundOf}
 
-abbrev pub during : Type 0 → List Line → List Line
-during A [] = []
-during A (x ∷ ls) = record { number = x .number; when = A × x .when } ∷ during A ls
-
--- ---- a start
-
-abbrev pub NoRoom : List ℕ → Type 0
-NoRoom t = capacityOf wordCount (length t) ≡ 0
+abbrev pub linesOf : List ℤ → Lines
+linesOf l = record {
+  before = shotLines l;
+  test = listLines l;
+  row = λ w z. listLines l w;
+  NoFlip = NoFlip l;
+  result = λ w z. flippedOf (countOf l) w (circuitAt l z);
+}
 
 abbrev pub startLines : List ℤ → List ℕ → List ℕ → List Line
-startLines l w t = testLines l w ++ record { number = 11; when = NoRoom t } ∷ []
-
--- ---- a step
-
-abbrev pub Impossible : List ℤ → List ℕ → WalkRecord → Type 0
-Impossible l t r = (r .rows ≡ 0) ⊎ ((capacityOf wordCount (length t) < r .rows) ⊎ (r .rows * length (circuitsOf l) < r .step))
+startLines l w t = reach.startLines (groundOf l) (linesOf l) w t
 
 abbrev pub walkLines : List ℤ → List ℕ → WalkRecord → List Line
-walkLines l t r = shotLines l ++ record { number = 15; when = Impossible l t r } ∷ []
-
-abbrev pub Ahead : List ℤ → WalkRecord → Type 0
-Ahead l r = r .step ≡ r .rows * length (circuitsOf l) → ⊥
-
-abbrev pub rowAt : List ℤ → List ℕ → WalkRecord → List ℕ
-rowAt l t r = rowOf wordCount t (r .step / length (circuitsOf l))
-
-abbrev pub circuitOf : List ℤ → WalkRecord → ℕ
-circuitOf l r = r .step % length (circuitsOf l)
-
-abbrev pub resultOf : List ℤ → List ℕ → WalkRecord → List ℕ
-resultOf l t r = flippedOf (countOf l) (rowAt l t r) (circuitAt l (circuitOf l r))
-
-abbrev pub Flips : List ℤ → List ℕ → WalkRecord → Type 0
-Flips l t r = NoFlip l (rowAt l t r) (circuitOf l r) → ⊥
-
-abbrev pub New : List ℤ → List ℕ → WalkRecord → Type 0
-New l t r = Stands wordCount t (r .rows) (resultOf l t r) → ⊥
-
-abbrev pub Full : List ℕ → WalkRecord → Type 0
-Full t r = r .rows ≡ capacityOf wordCount (length t)
+walkLines l t r = reach.walkLines (groundOf l) (linesOf l) t r
 
 abbrev pub stepLines : List ℤ → List ℕ → WalkRecord → List Line
-stepLines l t r =
-    walkLines l t r ++ during (Ahead l r)
-    (listLines l (rowAt l t r) ++ record { number = 11; when = Flips l t r × New l t r × Full t r } ∷ [])
-
--- ---- a run
+stepLines l t r = reach.stepLines (groundOf l) (linesOf l) t r
 
 abbrev pub RunRefuses : List ℤ → List ℕ → WalkRecord → ℕ → ℕ → Type 0
-RunRefuses l t r b n =
-    First n (walkLines l t r)
-    ⊎ (Clear (walkLines l t r)
-    × ((k : ℕ) × (k < b) × (stepsOf (plane l) k t r .answer ≡ gives made) × First n (stepLines l (stepsOf (plane l) k t r .table) (stepsOf (plane l) k t r .walk))))
+RunRefuses l t r b n = reach.RunRefuses (groundOf l) (linesOf l) t r b n

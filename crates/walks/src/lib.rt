@@ -5,7 +5,7 @@
 //   run      made, done              as a step
 //
 // Each has a twin, start_at, step_at, run_at, that takes the record by value and hands it back. Every call takes every input; specs/Calls.antt says what it answers and leaves,
-// specs/Lines.antt when it refuses, specs/Surfaces.antt what a walk lists.
+// specs/Lines.antt when it refuses, specs/Demand.antt what a walk lists.
 ghost use mathlib.Core.Path.{_≡_};
 ghost use Rattle.walks.specs.Calls.{startLanding, stepLanding, afterStart, afterStep, startCallOf, stepCallOf, runCallOf};
 use circuits::CIRCUITS_MOST;
@@ -82,7 +82,7 @@ pub fn run_at(shots: &[i32], table: &mut [u64], walk: Walk, b: usize) -> AfterSt
     }
     let mut plus = [0u16; CIRCUITS_MOST];
     let mut minus = [0u16; CIRCUITS_MOST];
-    let mut held = [0u64; ready::core::HELD_WORDS];
+    let mut held = [0u64; ready::core::READY_WORDS];
     let count = ready::core::prepare(shots, &mut plus, &mut minus, &mut held);
     if table::impossible(table::capacity(table.len()), walk, count) {
         return AfterStep {

@@ -9,12 +9,12 @@ ghost use Rattle.reach.specs.Walks.{made, rowsMost, counted, stepOf, stepsOf};
 ghost use Rattle.shots.specs.Sizes.{shotsMost};
 ghost use Rattle.shots.specs.Patch.{countOf};
 ghost use Rattle.circuits.specs.Sizes.{circuitsMost};
-ghost use Rattle.circuits.specs.Numbered.{circuitsOf};
+ghost use Rattle.circuits.specs.Numbering.{circuitsOf};
 ghost use Rattle.triples.specs.Sizes.{wordCount};
 ghost use Rattle.triples.specs.Sets.{wordsOf};
 ghost use Rattle.lists.specs.Tests.{listRefusalOf};
 ghost use Rattle.lists.specs.Held.{heldRows, Prepared};
-ghost use Rattle.walks.specs.Calls.{plane, readWalk, readStepped, afterStep, isMade};
+ghost use Rattle.walks.specs.Calls.{groundOf, readWalk, readStepped, afterStep, isMade};
 ghost use Rattle.walks.specs.Going.{Going};
 ghost use Rattle.walks.specs.Index.{Indexed};
 use super::AfterStep;
@@ -64,7 +64,7 @@ fn one(
     z: usize,
 ) -> AfterStep
     requires { ⌜ Going (now shots) (now plus) (now minus) (now held) count (now table) (readWalk walk) × (walk .step < walk .rows * count) × (wordsOf row ≡ rowOf wordCount (now table) (walk .step / count)) × (listRefusalOf (now shots) (wordsOf row) ≡ 0) × (z ≡ walk .step % count) × Indexed (now table) (walk .rows) (now index) ⌝ }
-    ensures { λ r. ⌜ (afterStep (now (table .exit)) r ≡ stepOf (plane (now (shots .entry))) (now (table .entry)) (readWalk walk)) × Indexed (now (table .exit)) (r .walk .rows) (now (index .exit)) ⌝ }
+    ensures { λ r. ⌜ (afterStep (now (table .exit)) r ≡ stepOf (groundOf (now (shots .entry))) (now (table .entry)) (readWalk walk)) × Indexed (now (table .exit)) (r .walk .rows) (now (index .exit)) ⌝ }
 {
     let turned = ready::core::turn(shots, plus, minus, held, count, row, z);
     if !turned.found {
@@ -88,7 +88,7 @@ fn along(
     row: Triples,
 ) -> AfterStep
     requires { ⌜ Going (now shots) (now plus) (now minus) (now held) count (now table) (readWalk walk) × (walk .step < walk .rows * count) × (b ≤ count - walk .step % count) × (wordsOf row ≡ rowOf wordCount (now table) (walk .step / count)) × (listRefusalOf (now shots) (wordsOf row) ≡ 0) × Indexed (now table) (walk .rows) (now index) ⌝ }
-    ensures { λ r. ⌜ (afterStep (now (table .exit)) r ≡ stepsOf (plane (now (shots .entry))) b (now (table .entry)) (readWalk walk)) × Indexed (now (table .exit)) (r .walk .rows) (now (index .exit)) ⌝ }
+    ensures { λ r. ⌜ (afterStep (now (table .exit)) r ≡ stepsOf (groundOf (now (shots .entry))) b (now (table .entry)) (readWalk walk)) × Indexed (now (table .exit)) (r .walk .rows) (now (index .exit)) ⌝ }
 {
     let first = walk.step % count;
     let mut rows = walk.rows;
@@ -150,7 +150,7 @@ pub fn several(
     b: usize,
 ) -> AfterStep
     requires { ⌜ Going (now shots) (now plus) (now minus) (now held) count (now table) (readWalk walk) × Indexed (now table) (walk .rows) (now index) ⌝ }
-    ensures { λ r. ⌜ afterStep (now (table .exit)) r ≡ stepsOf (plane (now (shots .entry))) b (now (table .entry)) (readWalk walk) ⌝ }
+    ensures { λ r. ⌜ afterStep (now (table .exit)) r ≡ stepsOf (groundOf (now (shots .entry))) b (now (table .entry)) (readWalk walk) ⌝ }
 {
     let mut rows = walk.rows;
     let mut k = 0;

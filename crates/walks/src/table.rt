@@ -2,7 +2,7 @@
 ghost use mathlib.Core.Path.{_≡_};
 ghost use Prim.Native.Nat.{_*_, _≤_, _<_, min};
 ghost use lib.ListN.{length};
-ghost use Rattle.reach.specs.Walks.{rowsMost, capacityOf, storeOf};
+ghost use Rattle.reach.specs.Walks.{rowsMost, capacityOf, seenIn, storeOf};
 ghost use Rattle.circuits.specs.Sizes.{circuitsMost};
 ghost use Rattle.triples.specs.Sizes.{wordCount};
 ghost use Rattle.triples.specs.Sets.{wordsOf};
@@ -55,7 +55,7 @@ pub fn impossible(capacity: usize, walk: Walk, count: usize) -> bool
 // A list that a flip found: a known one is passed over, a new one is written at the next row.
 pub fn place(table: &mut [u64], index: &mut [u16], walk: Walk, list: Triples) -> AfterStep
     requires { ⌜ (walk .rows ≤ capacityOf wordCount (length (now table))) × (walk .step < rowsMost * circuitsMost) × Indexed (now table) (walk .rows) (now index) ⌝ }
-    ensures { λ r. ⌜ (afterStep (now (table .exit)) r ≡ storeOf wordCount (now (table .entry)) (readWalk walk) (wordsOf list)) × Indexed (now (table .exit)) (r .walk .rows) (now (index .exit)) ⌝ }
+    ensures { λ r. ⌜ (afterStep (now (table .exit)) r ≡ storeOf wordCount (seenIn wordCount (now (table .entry)) (walk .rows)) (now (table .entry)) (readWalk walk) (wordsOf list)) × Indexed (now (table .exit)) (r .walk .rows) (now (index .exit)) ⌝ }
 {
     let rows = walk.rows;
     let step = walk.step;

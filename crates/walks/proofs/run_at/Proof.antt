@@ -9,15 +9,15 @@ use lib.ListN.{length}
 use lib.IntN.{ℤ}
 use borrow.Author.Needs.{needs}
 use Rattle.algebra.specs.Answer.{refuses}
-use Rattle.reach.specs.Walks.{WalkRecord, rowsMost, Landing, leaves, capacityOf, impossible, runOf, stepsOf}
+use Rattle.reach.specs.Walks.{WalkRecord, rowsMost, Reply, Landing, leaves, capacityOf, impossible, runOf, stepsOf}
 use Rattle.reach.proofs.StepLaws.{walk-refused, walk-impossible}
 use Rattle.shots.specs.Tests.{refusalOf}
 use Rattle.shots.proofs.Patch.{patch-few}
 use Rattle.shots.proofs.Chains.{shots-numbered}
-use Rattle.circuits.specs.Numbered.{circuitsOf}
+use Rattle.circuits.specs.Numbering.{circuitsOf}
 use Rattle.circuits.proofs.Bounds.{circuits-most}
 use Rattle.triples.specs.Sizes.{wordCount}
-use Rattle.walks.specs.Calls.{plane, readWalk}
+use Rattle.walks.specs.Calls.{groundOf, readWalk}
 use Rattle.walks.specs.Going.{Going}
 use Rattle.walks.proofs.StepsLaws.{going-fits, run-steps}
 use Rattle.walks.proofs.run_at.Statement.{statement}
@@ -25,14 +25,14 @@ use Rattle.walks.proofs.run_at.Tie as tie
 
 -- the first rules of a run; `r` and `c` are what the callees gave
 module _ (l : List ℤ) (t : List ℕ) (w : WalkRecord) (b : ℕ) {r : ℕ} (e : r ≡ refusalOf l) where
-  run-refused : (r ≡ 0 → ⊥) → leaves t w (refuses r) ≡ runOf (plane l) t w b
+  run-refused : (r ≡ 0 → ⊥) → leaves t w (refuses r) ≡ runOf (groundOf l) t w b
   unfolding runOf refusalOf
-  run-refused h = ap (λ (n : ℕ). leaves t w (refuses n)) e ∙ sym (walk-refused (plane l) t w (stepsOf (plane l) b t w) (λ z. h (e ∙ z)))
+  run-refused h = ap (λ (n : ℕ). leaves t w (refuses n)) e ∙ sym (walk-refused (groundOf l) t w (stepsOf (groundOf l) b t w) (λ z. h (e ∙ z)))
 
-  run-impossible : r ≡ 0 → {c : ℕ} → c ≡ length (circuitsOf l) → impossible (capacityOf wordCount (length t)) w c ≡ true → leaves t w (refuses 15) ≡ runOf (plane l) t w b
+  run-impossible : r ≡ 0 → {c : ℕ} → c ≡ length (circuitsOf l) → impossible (capacityOf wordCount (length t)) w c ≡ true → leaves t w (refuses 15) ≡ runOf (groundOf l) t w b
   unfolding runOf refusalOf
   run-impossible z q i =
-      sym (walk-impossible (plane l) t w (stepsOf (plane l) b t w) (shots-numbered l) (sym e ∙ z) (subst (λ (n : ℕ). impossible (capacityOf wordCount (length t)) w n ≡ true) q i))
+      sym (walk-impossible (groundOf l) t w (stepsOf (groundOf l) b t w) (shots-numbered l) (sym e ∙ z) (subst (λ (n : ℕ). impossible (capacityOf wordCount (length t)) w n ≡ true) q i))
 
 returns : tie.Need-returns
 returns c = run-refused _ _ _ _ (c .before .refusal .ensures) (c .if1 .taken)
@@ -83,7 +83,7 @@ going c =
     let p = c .before .before in
     record { patch = patch p; ready = prepared p .prepare .ensures .1; circuits = prepared p .prepare .ensures .0; possible = tested (c .before) (c .if2 .left) }
 
-steps-run : (c : tie.Else2) (b : ℕ) {x : Landing} → let p = c .before .before in x ≡ stepsOf (plane (l p)) b (t p) (w p) → x ≡ runOf (plane (l p)) (t p) (w p) b
+steps-run : (c : tie.Else2) (b : ℕ) {x : Landing Reply} → let p = c .before .before in x ≡ stepsOf (groundOf (l p)) b (t p) (w p) → x ≡ runOf (groundOf (l p)) (t p) (w p) b
 steps-run c b is = is ∙ run-steps (going c) b
 
 -- the index is empty, and there is room for the rows

@@ -8,11 +8,11 @@ use lib.ListN.{length}
 use lib.IntN.{ℤ}
 use borrow.Author.Needs.{needs}
 use borrow.Author.Tests.{not-true, not-false}
-use Rattle.reach.specs.Walks.{WalkRecord, Landing, rowsMost, stepsOf}
+use Rattle.reach.specs.Walks.{WalkRecord, Reply, Landing, rowsMost, stepsOf}
 use Rattle.reach.proofs.ReachLaws.{tried-circuit}
 use Rattle.reach.proofs.RunLaws.{steps-one}
 use Rattle.circuits.specs.Sizes.{circuitsMost}
-use Rattle.walks.specs.Calls.{plane, readWalk, afterStep, isMade}
+use Rattle.walks.specs.Calls.{groundOf, readWalk, afterStep, isMade}
 use Rattle.walks.specs.Index.{Indexed}
 use Rattle.walks.proofs.StepsLaws.{circuit-on, is-made, not-made, later, SoFar, far-none, far-on, far-stop, far-all, going-below, going-few, going-small, going-on, row-stays}
 use Rattle.walks.proofs.steps.along.Statement.{statement}
@@ -85,11 +85,11 @@ module _ (c : tie.After-made Inv-loop μ-loop) where
   abbrev here : tie.At-loop Inv-loop μ-loop
   here = round .before
 
-  abbrev x : Landing
+  abbrev x : Landing Reply
   x = afterStep (called .one .last .1 .1 .1 .1 .1 .0) (called .one .result)
 
-  next : x ≡ stepsOf (plane (l here)) 1 (t here) (w here)
-  next = called .one .ensures .0 ∙ sym (steps-one (plane (l here)) (t here) (w here))
+  next : x ≡ stepsOf (groundOf (l here)) 1 (t here) (w here)
+  next = called .one .ensures .0 ∙ sym (steps-one (groundOf (l here)) (t here) (w here))
 
   indexed : Indexed (x .table) (x .walk .rows) (called .one .last .1 .1 .1 .1 .1 .1 .0)
   indexed = called .one .ensures .1

@@ -9,7 +9,7 @@ use lib.IntN.{ℤ}
 use borrow.Author.Needs.{needs}
 use borrow.Author.Tests.{not-true, not-false}
 use Rattle.algebra.specs.Answer.{Answer}
-use Rattle.reach.specs.Walks.{WalkRecord, Landing, rowsMost, afterFlip, stepOf}
+use Rattle.reach.specs.Walks.{WalkRecord, Reply, Landing, rowsMost, afterFlip, stepOf}
 use Rattle.reach.proofs.ReachLaws.{tried-circuit}
 use Rattle.reach.proofs.StepLaws.{after-none}
 use Rattle.circuits.specs.Sizes.{circuitsMost}
@@ -17,7 +17,7 @@ use Rattle.triples.specs.Sets.{wordsOf}
 use Rattle.surfaces.specs.Calls.{flipOf}
 use Rattle.surfaces.specs.Stars.{foundAnswer}
 use Rattle.surfaces.proofs.CallChains.{found-none, found-some}
-use Rattle.walks.specs.Calls.{plane, readWalk}
+use Rattle.walks.specs.Calls.{groundOf, readWalk}
 use Rattle.walks.proofs.StepsLaws.{landed, indexed-counted, going-fits, going-small, step-along}
 use Rattle.walks.proofs.steps.one.Statement.{statement}
 use Rattle.walks.proofs.steps.one.Tie as tie
@@ -40,9 +40,9 @@ module _ (s : tie.Start) where
   small = let f = going-small (s .pre .0) in let h = s .pre .1 in omega arith
 
   -- the step, by what its flip answers
-  step-is : {x : Answer (List ℕ)} → x ≡ flipOf l (wordsOf (s .args .row)) (s .args .z) → afterFlip (plane l) t w x ≡ stepOf (plane l) t w
+  step-is : {x : Answer (List ℕ)} → x ≡ flipOf l (wordsOf (s .args .row)) (s .args .z) → afterFlip (groundOf l) t w x ≡ stepOf (groundOf l) t w
   step-is e =
-      ap (afterFlip (plane l) t w) (e ∙ ap (flipOf l (wordsOf (s .args .row))) (s .pre .4))
+      ap (afterFlip (groundOf l) t w) (e ∙ ap (flipOf l (wordsOf (s .args .row))) (s .pre .4))
       ∙ sym (step-along (s .pre .0) (wordsOf (s .args .row)) (s .pre .1) (s .pre .2))
 
 turn-requires : tie.Need-turn-requires
@@ -65,7 +65,7 @@ module _ (c : tie.After-struct-known) where
   list = wordsOf (c .before .turn .result .list)
 
   -- x is what a callee left
-  given : {b : Bool} → found ≡ b → {x : Landing} → x ≡ afterFlip (plane (l start)) (t start) (w start) (foundAnswer b list) → x ≡ stepOf (plane (l start)) (t start) (w start)
+  given : {b : Bool} → found ≡ b → {x : Landing Reply} → x ≡ afterFlip (groundOf (l start)) (t start) (w start) (foundAnswer b list) → x ≡ stepOf (groundOf (l start)) (t start) (w start)
   given e is = is ∙ step-is start (ap (λ (b : Bool). foundAnswer b list) (sym e) ∙ c .before .turn .ensures)
 
 passed-requires : tie.Need-passed-requires
@@ -76,7 +76,7 @@ returns c =
     let d = c .before .before in
     let s = start d in
     let n = found-none false (list d) refl in (
-      given d (not-true _ (c .before .if1 .taken)) (landed (c .passed .result) (w s) (c .passed .ensures) ∙ sym (after-none (plane (l s)) (t s) (w s) 13 refl) ∙ ap (afterFlip (plane (l s)) (t s) (w s)) n),
+      given d (not-true _ (c .before .if1 .taken)) (landed (c .passed .result) (w s) (c .passed .ensures) ∙ sym (after-none (groundOf (l s)) (t s) (w s) 13 refl) ∙ ap (afterFlip (groundOf (l s)) (t s) (w s)) n),
       indexed-counted (c .passed .result) (w s) (c .passed .ensures) (s .pre .5),
     )
 
@@ -87,7 +87,7 @@ returns-2 : tie.Need-returns-2
 returns-2 c =
     let a = c .before .before .before .before in
     let e = a .before .before .before .before in
-    (given (e .before) (not-false _ (e .if1 .left)) (a .place .ensures .0 ∙ ap (afterFlip (plane _) _ _) (found-some true _ refl)), a .place .ensures .1)
+    (given (e .before) (not-false _ (e .if1 .left)) (a .place .ensures .0 ∙ ap (afterFlip (groundOf _) _ _) (found-some true _ refl)), a .place .ensures .1)
 
 pub one-spec : {M : Type 1} → statement M
 one-spec =

@@ -11,7 +11,7 @@ use borrow.Author.Needs.{needs}
 use borrow.Author.Tests.{not-true, not-false, leb-true}
 use Rattle.algebra.specs.Answer.{gives}
 use Rattle.algebra.proofs.AnswerLaws.{given-refused}
-use Rattle.reach.specs.Walks.{WalkRecord, made, Landing, rowsMost, stepOf, stepsOf}
+use Rattle.reach.specs.Walks.{WalkRecord, made, Reply, Landing, rowsMost, stepOf, stepsOf}
 use Rattle.reach.proofs.ReachLaws.{tried-row, tried-circuit}
 use Rattle.reach.proofs.StepLaws.{done-made}
 use Rattle.reach.proofs.RunLaws.{steps-one}
@@ -19,7 +19,7 @@ use Rattle.shots.proofs.Patch.{patch-few}
 use Rattle.circuits.specs.Sizes.{circuitsMost}
 use Rattle.triples.specs.Sets.{wordsOf}
 use Rattle.lists.specs.Tests.{listRefusalOf}
-use Rattle.walks.specs.Calls.{plane, readWalk, afterStep, isMade}
+use Rattle.walks.specs.Calls.{groundOf, readWalk, afterStep, isMade}
 use Rattle.walks.specs.Going.{Going}
 use Rattle.walks.specs.Index.{Indexed}
 use Rattle.walks.proofs.StepsLaws.{turn-facts, is-made, not-made, later, SoFar, far-none, far-on, far-stop, far-all, far-written}
@@ -60,8 +60,8 @@ module _ (c : tie.At-loop Inv-loop μ-loop) where
   abbrev w : WalkRecord
   w = later (readWalk (start .args .walk)) k (c .loop .rows)
 
-  abbrev asked : Landing
-  asked = stepsOf (plane l) b (start .args .table .now) (readWalk (start .args .walk))
+  abbrev asked : Landing Reply
+  asked = stepsOf (groundOf l) b (start .args .table .now) (readWalk (start .args .walk))
 
   same-index : length (c .loop .index) ≡ length (start .args .index .now)
   same-index = c .loop .inv .1 .room ∙ sym (start .pre .1 .room)
@@ -76,10 +76,10 @@ module _ (c : tie.At-loop Inv-loop μ-loop) where
   step-small = let f = going-below going in let h = small in omega arith
 
 -- a step that is not made ends the run
-stops : (c : tie.In-loop Inv-loop μ-loop) {x : Landing} → let a = c .before in stepOf (plane (l a)) (t a) (w a) ≡ x → (x .answer ≡ gives made → ⊥) → x ≡ asked a
+stops : (c : tie.In-loop Inv-loop μ-loop) {x : Landing Reply} → let a = c .before in stepOf (groundOf (l a)) (t a) (w a) ≡ x → (x .answer ≡ gives made → ⊥) → x ≡ asked a
 stops c {x} e ne =
     let a = c .before in
-    far-stop (a .loop .inv .0) 1 (let h = c .loop-test .taken in omega arith) x (sym (steps-one (plane (l a)) (t a) (w a) ∙ e)) ne
+    far-stop (a .loop .inv .0) 1 (let h = c .loop-test .taken in omega arith) x (sym (steps-one (groundOf (l a)) (t a) (w a) ∙ e)) ne
 
 add-if1 : tie.Need-add-if1 Inv-loop μ-loop
 add-if1 c = let f = step-small (c .before .before) in record { fits = omega arith }
@@ -188,7 +188,7 @@ module _ (c : tie.After-made Inv-loop μ-loop) where
   abbrev least : tie.After-least Inv-loop μ-loop
   least = called .before .before .before
 
-  abbrev x : Landing
+  abbrev x : Landing Reply
   x = afterStep (called .along .last .1 .1 .1 .1 .1 .0) (called .along .result)
 
   still : Indexed (x .table) (x .walk .rows) (called .along .last .1 .1 .1 .1 .1 .1 .0)

@@ -21,7 +21,7 @@ abbrev start : (d : tie.After-seen) → tie.Start
 start d = d .before .before .before .before .before
 
 returns : tie.Need-returns
-returns c = (sym (store-known _ _ _ _ (sym (c .before .seen .ensures) ∙ c .if1 .taken)), start (c .before) .pre .2)
+returns c = (sym (store-known _ _ _ _ _ (sym (c .before .seen .ensures) ∙ c .if1 .taken)), start (c .before) .pre .2)
 
 -- the list is none of the rows
 new : (d : tie.Else1) → let a = start (d .before) .args in seenIn wordCount (a .table .now) (a .walk .rows) (wordsOf (a .list)) ≡ false
@@ -30,7 +30,7 @@ new d = sym (d .before .seen .ensures) ∙ d .if1 .left
 returns-2 : tie.Need-returns-2
 returns-2 c =
     let d = c .before .before in
-    (sym (store-full _ _ _ _ (new d) (c .if2 .taken ∙ c .before .capacity .ensures)), start (d .before) .pre .2)
+    (sym (store-full _ _ _ _ _ (new d) (c .if2 .taken ∙ c .before .capacity .ensures)), start (d .before) .pre .2)
 
 -- there is a row for it
 room : (d : tie.Else2) → let a = start (d .before .before .before) .args in wordCount * a .walk .rows + wordCount ≤ length (a .table .now)
@@ -45,7 +45,7 @@ returns-3 c =
     let a = s .args in
     let w = wordsOf (a .list) in (
       ap (λ (t : List ℕ). leaves t (grown (readWalk (a .walk))) (gives made)) (p .put-row .ensures)
-          ∙ sym (store-new _ _ _ _ (new (e .before .before)) (λ z. e .if2 .left (z ∙ sym (e .before .capacity .ensures)))),
+          ∙ sym (store-new _ _ _ _ _ (new (e .before .before)) (λ z. e .if2 .left (z ∙ sym (e .before .capacity .ensures)))),
       subst (Indexed _ (a .walk .rows + 1)) (sym (n .note .ensures))
           (subst (λ (t : List ℕ). Indexed t (a .walk .rows + 1) (notedOf (a .index .now) (a .walk .rows) w)) (sym (p .put-row .ensures))
           (indexed-placed (a .table .now) w (a .index .now) (a .walk .rows) (s .pre .2) refl (room e))),
