@@ -9,19 +9,21 @@ use Rattle.algebra.specs.Words.{setBit, member, putIn, sift, rowOf, setRow}
 use Rattle.shots.specs.Coordinates.{xOf, yOf, areaOf}
 use Rattle.shots.specs.Patch.{orientOf, betweenOf, someLeft, someRight, borderOf}
 use Rattle.shots.specs.Tests.{badCount, farAt, someFar, sameAt, sameBefore, someSame, bentAt, bentOf, bentBefore, someBent}
-use Rattle.shots.specs.Calls.{orientationOf, signAt, cocircuitOf}
+use Rattle.shots.specs.Calls.{orientationOf, signAt, cocircuitOf, bordersOf, borderCallOf}
 use Rattle.circuits.specs.Sides.{side, split}
-use Rattle.circuits.specs.Numbered.{oneIf, three, threesWith, threesFrom, threes, four, foursUpon, foursWith, foursFrom, fours, circuitsOf}
+use Rattle.circuits.specs.Numbering.{oneIf, three, threesWith, threesFrom, threes, four, foursUpon, foursWith, foursFrom, fours, circuitsOf}
 use Rattle.circuits.specs.Calls.{countCallOf, circuitCallOf}
 use Rattle.triples.specs.Ranks.{tripleCount, tripleAt, rankOf}
 use Rattle.lists.specs.Tests.{isFlat, pastLast, someFlat, isEmpty, sidesIn, crosses, crossing, shared, openAt, openEdge, listRefusalOf}
 use Rattle.lists.specs.Calls.{testOf}
-use Rattle.surfaces.specs.Flips.{listed, supportOf, piecesOf, completes, someLink, mixedLinks, supports, joins, exchanged, flippedOf}
+use Rattle.lists.specs.Tests.{listed}
+use Rattle.surfaces.specs.Flips.{supportOf, piecesOf, completes, someLink, mixedLinks, supports, joins, exchanged, flippedOf}
 use Rattle.surfaces.specs.Placing.{firstOff, beginOf, thirdIn, loneThird, visible, withEdge, withEdges, placeShot, placeNext, placedOf}
+use Rattle.surfaces.specs.Areas.{tripleAreaOf, areaSumOf}
 use Rattle.surfaces.specs.Calls.{placingOf, flipOf}
 use Rattle.reach.specs.Walks.{seenIn, impossible, storeOf, tryOf, stepOf, stepsOf, runOf, startOf}
 use Rattle.cases.specs.Table.{Case, replyTo, table}
 
 pub cases-right : map (λ (c : Case). replyTo (c .patch) (c .asked)) table ≡ map (λ (c : Case). c .stated) table
-unfolding chain any tally tabulate run over signOf opposite value xOf yOf areaOf orientOf betweenOf badCount farAt someFar sameAt sameBefore someSame bentAt bentOf bentBefore someBent orientationOf signAt cocircuitOf side split maskOf oneIf three threesWith threesFrom threes four foursUpon foursWith foursFrom fours circuitsOf countCallOf circuitCallOf refusal anyOf first fold picks isOn allOn sameList union dropped bit nest placeOf setBit member putIn sift someLeft someRight borderOf tripleCount tripleAt rankOf isFlat pastLast someFlat isEmpty sidesIn crosses crossing shared openAt openEdge listRefusalOf testOf listed supportOf piecesOf completes someLink mixedLinks supports joins exchanged flippedOf firstOff beginOf thirdIn loneThird visible withEdge withEdges placeShot placeNext placedOf placingOf flipOf rowOf setRow seenIn impossible storeOf tryOf stepOf stepsOf runOf startOf
+unfolding chain any tally tabulate run over signOf opposite value xOf yOf areaOf orientOf betweenOf badCount farAt someFar sameAt sameBefore someSame bentAt bentOf bentBefore someBent orientationOf signAt cocircuitOf bordersOf borderCallOf side split maskOf oneIf three threesWith threesFrom threes four foursUpon foursWith foursFrom fours circuitsOf countCallOf circuitCallOf refusal anyOf first fold picks isOn allOn sameList union dropped bit nest placeOf setBit member putIn sift someLeft someRight borderOf tripleCount tripleAt rankOf isFlat pastLast someFlat isEmpty sidesIn crosses crossing shared openAt openEdge listRefusalOf testOf tripleAreaOf areaSumOf listed supportOf piecesOf completes someLink mixedLinks supports joins exchanged flippedOf firstOff beginOf thirdIn loneThird visible withEdge withEdges placeShot placeNext placedOf placingOf flipOf rowOf setRow seenIn impossible storeOf tryOf stepOf stepsOf runOf startOf
 cases-right = refl

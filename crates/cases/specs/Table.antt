@@ -1,8 +1,8 @@
 -- The proved cases of document 01, "The square with its centre", as one table: a patch, what is asked of it, and the answer that document 01 states; of its run cases those of the walk.
 --
---   Question      a call and its numbers
---   Reply         an answer: a value or the number that refuses
---   replyTo l q   what the call answers, by the definition that its contract cites
+--   Question      a call and its numbers; or the double areas of a list, summed
+--   Reply         an answer: a value or the number that refuses; or a sum
+--   replyTo l q   what the call answers, by the definition that its contract cites; or the sum, by that which the report cites
 --   Case, table   the cases
 --   triples ts    the words of a list of triples
 --   walkFrom l w t b   a start from the list w over the table t, and then a run of b steps
@@ -17,22 +17,25 @@ use lib.IntN.{ℤ, pos, negsuc}
 use Rattle.algebra.specs.Answer.{Answer, gives, refuses}
 use Rattle.algebra.specs.Words.{putIn}
 use Rattle.reach.specs.Walks.{Reply as Said, made, done, Landing, runOf, startOf}
-use Rattle.shots.specs.Calls.{Cocircuit, orientationOf, cocircuitOf}
+use Rattle.shots.specs.Calls.{Cocircuit, orientationOf, cocircuitOf, borderCallOf}
 use Rattle.circuits.specs.declared.Sides.{Sides}
 use Rattle.circuits.specs.Sides.{masks}
 use Rattle.circuits.specs.Calls.{countCallOf, circuitCallOf}
 use Rattle.triples.specs.Sizes.{wordCount}
 use Rattle.triples.specs.Ranks.{rankOf}
 use Rattle.lists.specs.Calls.{testOf}
+use Rattle.surfaces.specs.Areas.{areaSumOf}
 use Rattle.surfaces.specs.Calls.{placingOf, flipOf}
-use Rattle.walks.specs.Calls.{plane}
+use Rattle.walks.specs.Calls.{groundOf}
 
 pub data Question : Type 0 where
   orientation : ℕ → ℕ → ℕ → Question
   cocircuit : ℕ → ℕ → Question
+  border : Question
   circuits : Question
   circuit : ℕ → Question
   test : List ℕ → Question
+  areas : List ℕ → Question
   placing : Question
   flip : List ℕ → ℕ → Question
   walk : List ℕ → List ℕ → ℕ → Question
@@ -43,18 +46,21 @@ pub data Reply : Type 0 where
   count : Answer ℕ → Reply
   sides : Answer Sides → Reply
   tested : Answer (Unit {0}) → Reply
+  sum : ℕ → Reply
   surface : Answer (List ℕ) → Reply
-  walked : Landing → Reply
+  walked : Landing Said → Reply
 
-abbrev pub walkFrom : List ℤ → List ℕ → List ℕ → ℕ → Landing
-walkFrom l w t b = let x = startOf (plane l) t (record { rows = 0; step = 0 }) w in runOf (plane l) (x .table) (x .walk) b
+abbrev pub walkFrom : List ℤ → List ℕ → List ℕ → ℕ → Landing Said
+walkFrom l w t b = let x = startOf (groundOf l) t (record { rows = 0; step = 0 }) w in runOf (groundOf l) (x .table) (x .walk) b
 
 abbrev pub replyTo : List ℤ → Question → Reply
 replyTo l (orientation a b c) = sign (orientationOf l a b c)
 replyTo l (cocircuit i j) = signs (cocircuitOf l i j)
+replyTo l border = count (borderCallOf l)
 replyTo l circuits = count (countCallOf l)
 replyTo l (circuit z) = sides (circuitCallOf l z)
 replyTo l (test w) = tested (testOf l w)
+replyTo l (areas w) = sum (areaSumOf l w)
 replyTo l placing = surface (placingOf l)
 replyTo l (flip w z) = surface (flipOf l w z)
 replyTo l (walk w t b) = walked (walkFrom l w t b)
@@ -109,6 +115,10 @@ halves = triples (tri 0 1 2 ∷ tri 0 2 3 ∷ [])
 abbrev others : List ℕ
 others = triples (tri 0 1 3 ∷ tri 1 2 3 ∷ [])
 
+-- one half, and the other with an edge split at the centre
+abbrev split : List ℕ
+split = triples (tri 0 1 2 ∷ tri 0 3 4 ∷ tri 2 3 4 ∷ [])
+
 -- the four triangles around the centre
 abbrev around : List ℕ
 around = triples (tri 0 1 4 ∷ tri 0 3 4 ∷ tri 1 2 4 ∷ tri 2 3 4 ∷ [])
@@ -134,14 +144,17 @@ table =
     ∷ of-square (orientation 0 2 1) negative
     ∷ of-square (orientation 0 2 4) flat
     ∷ of-square (cocircuit 0 2) (five (pos 0) (negsuc 0) (pos 0) (pos 1) (pos 0))
+    ∷ of-square border (count (gives 4))
     ∷ of-square circuits (count (gives 3))
     ∷ of-square (circuit 0) (_against_ (0 ∷ 2 ∷ []) (4 ∷ []))
     ∷ of-square (circuit 1) (_against_ (1 ∷ 3 ∷ []) (4 ∷ []))
     ∷ of-square (circuit 2) (_against_ (0 ∷ 2 ∷ []) (1 ∷ 3 ∷ []))
     ∷ of-square (test halves) accepted
+    ∷ of-square (areas halves) (sum 8)
     ∷ of-square (test (triples (tri 0 1 2 ∷ []))) (refused 9)
     ∷ of-square (test (triples (tri 0 1 2 ∷ tri 0 2 3 ∷ tri 0 1 3 ∷ []))) (refused 8)
-    ∷ of-square (test (triples (tri 0 1 2 ∷ tri 0 3 4 ∷ tri 2 3 4 ∷ []))) (refused 8)
+    ∷ of-square (test split) (refused 8)
+    ∷ of-square (areas split) (sum 8)
     ∷ of-square (test (triples [])) (refused 10)
     ∷ of-square (test (triples (tri 0 2 4 ∷ []))) (refused 7)
     ∷ of-square (flip halves 2) (surface (gives others))

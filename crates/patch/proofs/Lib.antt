@@ -1,3 +1,3 @@
 pub mod ReturnLaws
 pub mod Promises
-pub mod AfterLaws
+pub mod OneReturn

@@ -17,8 +17,8 @@ use lib.ListN.{length, getD}
 use lib.IntN.{ℤ}
 use Rattle.algebra.specs.Answer.{Answer, gives, refuses, Rule, chain, Numbered}
 use Rattle.algebra.specs.Words.{rowOf}
-use Rattle.algebra.proofs.AnswerLaws.{given-refused}
-use Rattle.reach.specs.Walks.{Ground, WalkRecord, Reply, started, made, done, Landing, onlyIf, capacityOf, seenIn, walkRules}
+use Rattle.algebra.proofs.AnswerLaws.{given-refused, chain-ends, numbered-append}
+use Rattle.reach.specs.Walks.{Ground, WalkRecord, started, Reply, made, done, Landing, onlyIf, capacityOf, seenIn, walkRules}
 use Rattle.reach.specs.Walks.{storeOf, afterFlip, tryOf, stepOf, goOn, stepsOf, runOf, begin, startOf}
 use Rattle.shots.specs.Patch.{countOf}
 use Rattle.shots.specs.Tests.{shotRules, placeRules}
@@ -27,12 +27,13 @@ use Rattle.shots.proofs.Chains.{shots-numbered}
 use Rattle.circuits.specs.Calls.{countCallOf, circuitRule, circuitCallOf}
 use Rattle.lists.specs.Tests.{listRules}
 use Rattle.lists.specs.Calls.{testOf}
+use Rattle.lists.proofs.Chains.{list-numbered}
 use Rattle.surfaces.specs.Calls.{placingOf, flipRules, flipOf}
 use Rattle.records.specs.Formats.{patchBytes, surfaceBytes}
 use Rattle.records.specs.Reading.{coordinatesOf, patchFrame, patchRules, surfaceFrame, tripleRule, listedOf}
 use Rattle.records.specs.Calls.{readPatchOf, readSurfaceOf, roomRule, writeOf, writePatchOf, writeSurfaceOf}
 use Rattle.records.proofs.FormatLaws.{patch-numbered, surface-numbered}
-use Rattle.walks.specs.Calls.{plane, readWalk, stepCallOf, runCallOf}
+use Rattle.walks.specs.Calls.{groundOf, readWalk, stepCallOf, runCallOf}
 use Rattle.walks.specs.declared.Walk.{Walk}
 use Rattle.patch.specs.Returns.{Apart, startCalled}
 
@@ -53,49 +54,34 @@ apart-refused {A} {n} h = go (λ e. given-refused (sym (h e .1)))
     go : (n ≡ 0 → ⊥) → 0 < n
     go ne = omega arith
 
--- a chain ends in its value, or in a number that is not 0
-chain-ends : {A : Type 0} (P : Answer A → Type 0) (rs : List Rule) (v : A) → Numbered rs → ((n : ℕ) → 0 < n → P (refuses n)) → P (gives v) → P (chain rs v)
-unfolding chain
-chain-ends P [] v h f g = g
-chain-ends P (r ∷ rs) v h f g = go (r .broken) (chain-ends P rs v (h .1) f g)
-  where
-    go : (b : Bool) → P (chain rs v) → P (cond b (refuses (r .number)) (chain rs v))
-    go true k = f (r .number) (h .0)
-    go false k = k
-
 pub chain-apart : {A : Type 0} (rs : List Rule) (v : A) → Numbered rs → Apart (chain rs v)
 chain-apart rs v h = chain-ends Apart rs v h (λ n l. refused-apart l) (given-apart v)
 
-numbered-append : (rs ss : List Rule) → Numbered rs → Numbered ss → Numbered (rs ++ ss)
-numbered-append [] ss h k = k
-numbered-append (r ∷ rs) ss h k = (h .0, numbered-append rs ss (h .1) k)
-
 -- ---- the walk, over any ground
 
-cond-apart : (b : Bool) (x y : Landing) → Apart (x .answer) → Apart (y .answer) → Apart (cond b x y .answer)
+cond-apart : {A : Type 0} (b : Bool) (x y : Landing A) → Apart (x .answer) → Apart (y .answer) → Apart (cond b x y .answer)
 cond-apart true x y h k = h
 cond-apart false x y h k = k
 
-go-apart : (l m : Landing) (a : Answer Reply) → Apart (l .answer) → Apart (m .answer) → Apart (goOn l a m .answer)
-go-apart l m (gives started) h k = h
+go-apart : (l m : Landing Reply) (a : Answer Reply) → Apart (l .answer) → Apart (m .answer) → Apart (goOn l a m .answer)
 go-apart l m (gives made) h k = k
 go-apart l m (gives done) h k = h
 go-apart l m (refuses n) h k = h
 
-store-apart : (k : ℕ) (t : List ℕ) (w : WalkRecord) (r : List ℕ) → Apart (storeOf k t w r .answer)
+store-apart : (k : ℕ) (find : List ℕ → Bool) (t : List ℕ) (w : WalkRecord) (r : List ℕ) → Apart (storeOf k find t w r .answer)
 unfolding storeOf
-store-apart k t w r =
-    cond-apart (seenIn k t (w .rows) r) _ _ (given-apart made)
+store-apart k find t w r =
+    cond-apart (find r) _ _ (given-apart made)
     (cond-apart (eqb (w .rows) (capacityOf k (length t))) _ _ (refused-apart (omega arith)) (given-apart made))
 
 module _ (g : Ground) (numbered : Numbered (g .before)) where
-  rules-apart : (t : List ℕ) (w : WalkRecord) (l : Landing) → Apart (l .answer) → Apart (onlyIf t w (chain (walkRules g t w) l) .answer)
+  rules-apart : (t : List ℕ) (w : WalkRecord) (l : Landing Reply) → Apart (l .answer) → Apart (onlyIf t w (chain (walkRules g t w) l) .answer)
   rules-apart t w l h =
       chain-ends (λ a. Apart (onlyIf t w a .answer)) (walkRules g t w) l (numbered-append (g .before) _ numbered (omega arith, tt)) (λ n p. refused-apart p) h
 
   module _ (flips : (r : List ℕ) (z : ℕ) → Apart (g .flip r z)) where
     after-apart : (t : List ℕ) (w : WalkRecord) (x : Answer (List ℕ)) → Apart x → Apart (afterFlip g t w x .answer)
-    after-apart t w (gives r) h = store-apart (g .words) t w r
+    after-apart t w (gives r) h = store-apart (g .words) (seenIn (g .words) t (w .rows)) t w r
     after-apart t w (refuses n) h = cond-apart (eqb n 13) _ _ (given-apart made) (refused-apart (apart-refused h))
 
     try-apart : (t : List ℕ) (w : WalkRecord) → Apart (tryOf g t w .answer)
@@ -128,9 +114,6 @@ ground-start-apart g t w r h = go (g .test r) h
 -- the rules of the shots come first, then ss
 shots-apart : {A : Type 0} (l : List ℤ) (ss : List Rule) (v : A) → Numbered ss → Apart (chain (shotRules l ++ ss) v)
 shots-apart l ss v h = chain-apart (shotRules l ++ ss) v (numbered-append (shotRules l) ss (shots-numbered l) h)
-
-list-numbered : (l : List ℤ) (w : List ℕ) → Numbered (listRules l w)
-list-numbered l w = (omega arith, (omega arith, (omega arith, (omega arith, tt))))
 
 -- and behind them those of a list, then ss
 list-apart : {A : Type 0} (l : List ℤ) (w : List ℕ) (ss : List Rule) (v : A) → Numbered ss → Apart (chain (shotRules l ++ (listRules l w ++ ss)) v)
@@ -178,13 +161,13 @@ module _ (l : List ℤ) where
   flip-apart w z = list-apart l w (flipRules l w z) _ (omega arith, (omega arith, tt))
 
   pub start-apart : (w t : List ℕ) (r : Walk) → Apart (startCalled l w t r .answer)
-  start-apart w t r = ground-start-apart (plane l) t (readWalk r) w (test-apart w)
+  start-apart w t r = ground-start-apart (groundOf l) t (readWalk r) w (test-apart w)
 
   pub step-apart : (t : List ℕ) (r : Walk) → Apart (stepCallOf l t r .answer)
-  step-apart t r = ground-step-apart (plane l) (shots-numbered l) flip-apart t (readWalk r)
+  step-apart t r = ground-step-apart (groundOf l) (shots-numbered l) flip-apart t (readWalk r)
 
   pub run-apart : (t : List ℕ) (r : Walk) (b : ℕ) → Apart (runCallOf l t r b .answer)
-  run-apart t r b = ground-run-apart (plane l) (shots-numbered l) flip-apart t (readWalk r) b
+  run-apart t r b = ground-run-apart (groundOf l) (shots-numbered l) flip-apart t (readWalk r) b
 
   pub write-patch-apart : (t : List ℕ) → Apart (writePatchOf l t .answer)
   unfolding writePatchOf writeOf

@@ -7,17 +7,13 @@
 --   returned-writing    the number of a writer, its buffer t, and what is left at the lent place of its count
 --   returned-landing    all that a call of the walk leaves
 --   returned-step       the same of a step or run, with the lent flag that held f
---   row-whole           k words, read as the first row of rows of k words, are those words
---   row-only            k words, written over k words, are what stands there
 use mathlib.Core.Path.{_≡_, sym, _∙_, ap}
 use mathlib.Core.List.{List}
-use Prim.Native.Nat.{ℕ, _+_, _*_, _<_}
-use native.Mathlib.Omega.{arith}
-use lib.ListN.{length, getD}
-use lib.Seq.{ext-getD}
+use Prim.Native.Nat.{ℕ}
+use lib.ListN.{length}
 use Rattle.algebra.specs.Answer.{Answer, gives}
-use Rattle.algebra.specs.Words.{rowOf, setRow}
-use Rattle.algebra.proofs.WordLaws.{row-length, row-at, row-same, setRow-length}
+use Rattle.algebra.specs.Words.{setRow}
+use Rattle.algebra.proofs.WordLaws.{row-only}
 use Rattle.reach.specs.Walks.{Reply, Landing, leaves}
 use Rattle.triples.specs.Sizes.{wordCount}
 use Rattle.walks.specs.Calls.{readWalk}
@@ -25,17 +21,6 @@ use Rattle.walks.specs.declared.Walk.{Walk}
 use Rattle.records.specs.Calls.{Writing, readWritten, leftIn}
 use Rattle.records.specs.declared.Written.{Written}
 use Rattle.patch.specs.Returns.{numberOf, leftAt, besideAt, doneAt, leftBy, leftOf}
-
--- ---- lists
-
-module _ (k : ℕ) where
-  pub row-whole : (t : List ℕ) → length t ≡ k → rowOf k t 0 ≡ t
-  row-whole t e =
-      ext-getD 0 (rowOf k t 0) t (row-length k t 0 ∙ sym e)
-      (λ i h. let l : i < k = omega (arith, row-length k t 0) in row-at k t 0 i l ∙ ap (λ (j : ℕ). getD t j 0) (let z : k * 0 + i ≡ i = omega arith in z))
-
-  pub row-only : (t w : List ℕ) → length t ≡ k → length w ≡ k → setRow t 0 w ≡ w
-  row-only t w e f = sym (row-whole (setRow t 0 w) (setRow-length t 0 w ∙ e)) ∙ row-same k t 0 w f (omega arith)
 
 -- ---- answers
 
@@ -59,9 +44,9 @@ returned-writing x t e p = let q = returned readWritten x e (ap (λ (g : Writing
 
 -- ---- the walk
 
-pub returned-landing : {n : ℕ} {a : Answer Reply} (w : Walk) (t : List ℕ) {l : Landing} → n ≡ numberOf a → leaves t (readWalk w) a ≡ l → leftBy n w t ≡ leftOf l
+pub returned-landing : {A : Type 0} {n : ℕ} {a : Answer A} (w : Walk) (t : List ℕ) {l : Landing A} → n ≡ numberOf a → leaves t (readWalk w) a ≡ l → leftBy n w t ≡ leftOf l
 returned-landing w t e p = ap (λ (n : ℕ). leftBy n w t) e ∙ ap leftOf p
 
-pub returned-step : {n : ℕ} {d : ℕ} {a : Answer Reply} (w : Walk) (t : List ℕ) (f : ℕ) {l : Landing} → (n ≡ numberOf a) × (d ≡ doneAt f a) → leaves t (readWalk w) a ≡ l
+pub returned-step : {n : ℕ} {d : ℕ} {a : Answer Reply} (w : Walk) (t : List ℕ) (f : ℕ) {l : Landing Reply} → (n ≡ numberOf a) × (d ≡ doneAt f a) → leaves t (readWalk w) a ≡ l
     → (leftBy n w t ≡ leftOf l) × (d ≡ doneAt f (l .answer))
-returned-step w t f e p = (returned-landing w t (e .0) p, e .1 ∙ ap (λ (l : Landing). doneAt f (l .answer)) p)
+returned-step w t f e p = (returned-landing w t (e .0) p, e .1 ∙ ap (λ (l : Landing Reply). doneAt f (l .answer)) p)

@@ -16,9 +16,9 @@ use mathlib.Core.List.{List}
 use Prim.Native.Nat.{ℕ}
 use lib.IntN.{ℤ}
 use Rattle.algebra.specs.Answer.{Answer, gives, refuses}
-use Rattle.reach.specs.Walks.{WalkRecord, Reply, started, made, done, Landing, startOf}
+use Rattle.reach.specs.Walks.{WalkRecord, Begun, Reply, made, done, Landing, startOf}
 use Rattle.circuits.specs.declared.Sides.{Sides}
-use Rattle.walks.specs.Calls.{plane, readWalk}
+use Rattle.walks.specs.Calls.{groundOf, readWalk}
 use Rattle.walks.specs.declared.Walk.{Walk}
 
 abbrev pub numberOf : {A : Type 0} → Answer A → ℕ
@@ -47,7 +47,6 @@ minusAt x (refuses n) = x
 -- ---- the walk
 
 abbrev pub doneAt : ℕ → Answer Reply → ℕ
-doneAt d (gives started) = 0
 doneAt d (gives made) = 0
 doneAt d (gives done) = 1
 doneAt d (refuses n) = d
@@ -60,8 +59,8 @@ pub record Left : Type 0 where
 abbrev pub leftBy : ℕ → Walk → List ℕ → Left
 leftBy n w t = record { number = n; walk = readWalk w; table = t }
 
-abbrev pub leftOf : Landing → Left
+abbrev pub leftOf : {A : Type 0} → Landing A → Left
 leftOf l = record { number = numberOf (l .answer); walk = l .walk; table = l .table }
 
-abbrev pub startCalled : List ℤ → List ℕ → List ℕ → Walk → Landing
-startCalled l w t r = startOf (plane l) t (readWalk r) w
+abbrev pub startCalled : List ℤ → List ℕ → List ℕ → Walk → Landing Begun
+startCalled l w t r = startOf (groundOf l) t (readWalk r) w

@@ -135,8 +135,8 @@ pub extern "C" fn patch_circuits(shots: &[i32], count: &mut usize) -> u8
     ensures { λ r. ⌜ (r ≡ numberOf (countCallOf (now (shots .entry)))) × (now (count .exit) ≡ leftAt (now (count .entry)) (countCallOf (now (shots .entry)))) ⌝ }
 {
     match circuits::count(shots) {
-        circuits::Counted::Refused(number) => number,
-        circuits::Counted::Count(all) => {
+        shots::Counted::Refused(number) => number,
+        shots::Counted::Count(all) => {
             *count = all;
             0
         }
@@ -206,18 +206,17 @@ pub extern "C" fn patch_start(
 ) -> u8
     ensures { λ r. ⌜ leftBy r (now (walk .exit)) (now (table .exit)) ≡ leftOf (startCalled (now (shots .entry)) (now (list .entry)) (now (table .entry)) (now (walk .entry))) ⌝ }
 {
-    let out = walked::start(shots, list, table, *walk);
-    *walk = out.walk;
-    out.number
+    let first = walked::row_of(list);
+    let answer = walks::start(shots, first, table, walk);
+    walked::begun(answer)
 }
 
 #[no_mangle]
 pub extern "C" fn patch_step(shots: &[i32], table: &mut [u64], walk: &mut Walk, done: &mut u8) -> u8
     ensures { λ r. ⌜ (leftBy r (now (walk .exit)) (now (table .exit)) ≡ leftOf (stepCallOf (now (shots .entry)) (now (table .entry)) (now (walk .entry)))) × (now (done .exit) ≡ doneAt (now (done .entry)) (stepCallOf (now (shots .entry)) (now (table .entry)) (now (walk .entry)) .answer)) ⌝ }
 {
-    let out = walked::step(shots, table, *walk, done);
-    *walk = out.walk;
-    out.number
+    let answer = walks::step(shots, table, walk);
+    walked::told(answer, done)
 }
 
 #[no_mangle]
@@ -230,9 +229,8 @@ pub extern "C" fn patch_run(
 ) -> u8
     ensures { λ r. ⌜ (leftBy r (now (walk .exit)) (now (table .exit)) ≡ leftOf (runCallOf (now (shots .entry)) (now (table .entry)) (now (walk .entry)) b)) × (now (done .exit) ≡ doneAt (now (done .entry)) (runCallOf (now (shots .entry)) (now (table .entry)) (now (walk .entry)) b .answer)) ⌝ }
 {
-    let out = walked::run(shots, table, *walk, b, done);
-    *walk = out.walk;
-    out.number
+    let answer = walks::run(shots, table, walk, b);
+    walked::told(answer, done)
 }
 
 // ---- records

@@ -24,7 +24,7 @@ use Rattle.algebra.specs.Loops.{run, over}
 use Rattle.algebra.specs.Words.{rowOf}
 use Rattle.algebra.specs.Writing.{wrote}
 use Rattle.algebra.proofs.OverLaws.{over-turn, over-end, over-split, over-same}
-use Rattle.reach.specs.Walks.{Reply, started, made, done}
+use Rattle.reach.specs.Walks.{Reply, made, done}
 use Rattle.shots.specs.Patch.{countOf}
 use Rattle.triples.specs.Sizes.{wordCount}
 use Rattle.surfaces.specs.Calls.{placingOf}
@@ -54,7 +54,6 @@ abbrev pub Fits : Find → Type 0
 Fits f = f .ended .walk .rows ≤ tableRows
 
 end-fits : (x : Ended) (a : Answer Reply) → x .walk .rows ≤ tableRows → Fits (endFind x a)
-end-fits x (gives started) h = h
 end-fits x (gives made) h = h
 end-fits x (gives done) h = h
 end-fits x (refuses n) h = h
@@ -174,7 +173,6 @@ module _ (l : List ℤ) where
       ∙ part-shown l f 0 (f .ended .walk .rows + 2) e ∙ lines-surfaces l (f .ended) (f .complete)
 
   pub lines-end : (x : Ended) (a : Answer Reply) → endText l x a ≡ linesText (endFind x a)
-  lines-end x (gives started) = sym (lines-shown (endFind x (gives started)) refl)
   lines-end x (gives made) = sym (lines-shown (endFind x (gives made)) refl)
   lines-end x (gives done) = sym (lines-shown (endFind x (gives done)) refl)
   lines-end x (refuses n) = go (eqb n 11) refl

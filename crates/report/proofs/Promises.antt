@@ -7,7 +7,7 @@
 --   report-long         so it is for all that is longer than a record can be, with 5: reading more bytes than that changes nothing
 --   report-read         an accepted one: what placing answers decides
 --   report-walk         where that is a surface w: the walk from w
---   report-surfaces     the rows of that walk keep the promise of demand 3
+--   report-surfaces     that walk keeps the promise of demand 3
 --   walk-ends-so        the walk ends done, or is refused
 --   report-done         where it is done, the rows are printed, and they are exactly the surfaces that flips reach from w, each once
 --   report-full         where the table is full, the rows are printed
@@ -16,31 +16,33 @@ use mathlib.Core.Logic.{_⊎_, inl, inr, _↔_}
 use mathlib.Core.Bool.{true, false}
 use mathlib.Core.List.{List, _++_}
 use Prim.Native.Nat.{ℕ, _*_, _≤_}
-use lib.ListN.{length}
+use lib.ListN.{length, replicate}
 use lib.IntN.{ℤ}
 use Rattle.algebra.specs.Answer.{Answer, gives, refuses}
 use Rattle.algebra.specs.Loops.{over}
 use Rattle.algebra.specs.Words.{Words}
 use Rattle.algebra.proofs.OverLaws.{over-split}
-use Rattle.reach.specs.Walks.{Reply, started, made, done}
+use Rattle.reach.specs.Walks.{Reply, made, done}
 use Rattle.reach.specs.Reach.{Stands}
-use Rattle.reach.proofs.Theorem.{run-done}
-use Rattle.circuits.specs.Numbered.{circuitsOf}
+use Rattle.reach.proofs.Runs.{run-done}
+use Rattle.circuits.specs.Numbering.{circuitsOf}
 use Rattle.triples.specs.Sizes.{wordCount}
 use Rattle.lists.specs.Calls.{testOf}
 use Rattle.surfaces.specs.Calls.{placingOf}
 use Rattle.surfaces.proofs.Promises.{placing-words}
-use Rattle.walks.specs.Surfaces.{Surfaces, Reachable}
-use Rattle.walks.proofs.Theorem.{plane-sound, walk-surfaces}
+use Rattle.walks.specs.Calls.{groundOf, walkAs}
+use Rattle.walks.specs.Surfaces.{Reachable}
+use Rattle.walks.specs.Demand.{Demand-3}
+use Rattle.walks.proofs.Theorem.{walk-surfaces}
 use Rattle.records.specs.Fields.{Bytes}
 use Rattle.records.specs.Reading.{coordinatesOf}
 use Rattle.records.specs.Calls.{readPatchOf}
 use Rattle.records.proofs.Promises.{read-patch-long}
 use Rattle.text.specs.Lines.{Put, refusedLine}
-use Rattle.report.specs.Sizes.{stepsMost}
-use Rattle.report.specs.Report.{walkOf, surfacesText, endText, endOf, walkText, placedText, patchText, reportOf}
+use Rattle.report.specs.Sizes.{tableWords, stepsMost}
+use Rattle.report.specs.Report.{noWalk, begunOf, walkOf, surfacesText, endText, endOf, walkText, placedText, patchText, reportOf}
 use Rattle.report.specs.Report.{refusedFind, walkFind, placedFind, patchFind, findOf, lineCount, lineOf}
-use Rattle.report.proofs.WalkLaws.{placing-tested, begun-walked, walk-walked, walk-not-made, walk-not-started}
+use Rattle.report.proofs.WalkLaws.{placing-tested, begun-started, walk-walked, walk-not-made}
 use Rattle.report.proofs.LineLaws.{lines-refused, lines-end}
 
 pub part-one : (b t : List ℕ) (i j : ℕ) {u u′ : List ℕ} {r r′ : ℕ} → Put t 0 (over (lineOf (coordinatesOf b) (findOf b)) i j) u r → Put t 0 (over (lineOf (coordinatesOf b) (findOf b)) i j) u′ r′ → (r ≡ r′) × (u ≡ u′)
@@ -84,15 +86,15 @@ module _ (l : List ℤ) (w : List ℕ) (placed : placingOf l ≡ gives w) where
   words : Words wordCount w
   words = placing-words l w placed
 
-  pub report-surfaces : Surfaces l w (walkOf l w .table) (walkOf l w .walk)
-  report-surfaces = walk-surfaces l w words (walkOf l w .table) (walkOf l w .walk) (walk-walked l w accepted)
+  pub report-surfaces : Demand-3 l w (begunOf l w .table) (walkAs (begunOf l w .walk)) (walkOf l w .table) (walkAs (walkOf l w .walk))
+  unfolding begunOf
+  report-surfaces = walk-surfaces l w words (replicate tableWords 0) noWalk (begun-started l w accepted) (walkOf l w .table) (walkAs (walkOf l w .walk)) (walk-walked l w accepted)
 
-  -- it is never only made, nor started anew
+  -- it is never only made
   pub walk-ends-so : (walkOf l w .answer ≡ gives done) ⊎ ((n : ℕ) × (walkOf l w .answer ≡ refuses n))
   walk-ends-so = go (walkOf l w .answer) refl
     where
       go : (a : Answer Reply) → walkOf l w .answer ≡ a → (walkOf l w .answer ≡ gives done) ⊎ ((n : ℕ) × (walkOf l w .answer ≡ refuses n))
-      go (gives started) e = absurd (walk-not-started l w accepted (words .0) e)
       go (gives made) e = absurd (walk-not-made l w accepted (words .0) e)
       go (gives done) e = inl e
       go (refuses n) e = inr (n, e)
@@ -102,7 +104,7 @@ module _ (l : List ℤ) (w : List ℕ) (placed : placingOf l ≡ gives w) where
       × ((v : List ℕ) → Stands wordCount (walkOf l w .table) (walkOf l w .walk .rows) v ↔ Reachable l w v)
   unfolding walkText walkOf
   report-done e =
-      let s = run-done (plane-sound l) w (words .0) (begun-walked l w accepted) stepsMost e in
+      let s = run-done (groundOf l) (begunOf l w .table) (begunOf l w .walk) stepsMost e .5 in
       (ap (λ (a : Answer Reply). endText l (endOf l w) a) e, s, report-surfaces .whole s)
 
   pub report-full : walkOf l w .answer ≡ refuses 11 → walkText l w ≡ surfacesText l (endOf l w) false

@@ -1,6 +1,7 @@
 -- What `patchwalk` prints for the bytes that it reads, all of it.
 --
---   walkOf l w        where the walk from the list w ends, in a table of 4,096 rows
+--   noWalk, begunOf l w    the record before the start; what the start from the list w leaves, in a table of 4,096 rows
+--   walkOf l w        where the walk from it ends
 --   Ended, endedIn    where a walk ends: the record and the table
 --   firstLine l w     the first line, where the first row is the list w
 --   lineAt n t p      the line of row p of the table t
@@ -12,8 +13,10 @@
 --   reportOf b        the report of the bytes b
 --   Find              what is known after the walk: whether surfaces are shown; else the number that is printed; where the walk ended; whether it is complete
 --   readFound f t     so from the code's record and the table
+--   refusedFind n     so where a number is printed alone
+--   endFind x a, walkFind l w, placedFind l a, patchFind l a    so of a walk that ended in x with the answer a; of the walk from w; from what placing answers; from what the reader answers
 --   findOf b          so for the bytes b
---   lineCount f, lineOf l f i    the lines of a report, by what is known: how many, and line i
+--   lineCount f, lineOf l f i    the lines of a report, by what is known: how many, and line i; `shownLine l x d i`: where surfaces are shown
 --
 -- Theorems: proofs/Promises. Source: document 01, "The square with its centre".
 use mathlib.Core.Bool.{Bool, true, false, cond}
@@ -25,14 +28,14 @@ use lib.IntN.{ℤ}
 use Rattle.algebra.specs.Answer.{Answer, gives, refuses}
 use Rattle.algebra.specs.Loops.{tally, over}
 use Rattle.algebra.specs.Words.{rowOf}
-use Rattle.reach.specs.Walks.{WalkRecord, Reply, started, made, done, Landing, runOf, startOf}
+use Rattle.reach.specs.Walks.{WalkRecord, Begun, Reply, made, done, Landing, runOf, startOf}
 use Rattle.shots.specs.Patch.{countOf}
 use Rattle.shots.specs.Calls.{bordersOf}
-use Rattle.circuits.specs.Numbered.{circuitsOf}
+use Rattle.circuits.specs.Numbering.{circuitsOf}
 use Rattle.triples.specs.Sizes.{wordCount}
 use Rattle.surfaces.specs.Areas.{areaSumOf}
 use Rattle.surfaces.specs.Calls.{placingOf}
-use Rattle.walks.specs.Calls.{plane, readWalk}
+use Rattle.walks.specs.Calls.{groundOf, readWalk}
 use Rattle.walks.specs.declared.Walk.{Walk}
 use Rattle.records.specs.Reading.{coordinatesOf}
 use Rattle.records.specs.Calls.{readPatchOf}
@@ -46,11 +49,11 @@ use Rattle.report.specs.declared.Found.{Found}
 abbrev pub noWalk : WalkRecord
 noWalk = record { rows = 0; step = 0 }
 
-unfoldable pub begunOf : List ℤ → List ℕ → Landing
-begunOf l w = startOf (plane l) (replicate tableWords 0) noWalk w
+unfoldable pub begunOf : List ℤ → List ℕ → Landing Begun
+begunOf l w = startOf (groundOf l) (replicate tableWords 0) noWalk w
 
-unfoldable pub walkOf : List ℤ → List ℕ → Landing
-walkOf l w = runOf (plane l) (begunOf l w .table) (begunOf l w .walk) stepsMost
+unfoldable pub walkOf : List ℤ → List ℕ → Landing Reply
+walkOf l w = runOf (groundOf l) (begunOf l w .table) (begunOf l w .walk) stepsMost
 
 -- ---- its report
 
@@ -72,9 +75,8 @@ lineAt n t p = rowLine n p (rowOf wordCount t p)
 unfoldable pub surfacesText : List ℤ → Ended → Bool → List ℕ
 surfacesText l x d = firstLine l (rowOf wordCount (x .table) 0) ++ (over (lineAt (countOf l) (x .table)) 0 (x .walk .rows) ++ lastLine d (x .walk .rows) (x .walk .step))
 
--- a walk so long is never only made (`walk-not-made`), nor started anew
+-- a walk so long is never only made (`walk-not-made`)
 abbrev pub endText : List ℤ → Ended → Answer Reply → List ℕ
-endText l x (gives started) = surfacesText l x false
 endText l x (gives made) = surfacesText l x false
 endText l x (gives done) = surfacesText l x true
 endText l x (refuses n) = cond (eqb n 11) (surfacesText l x false) (refusedLine n)
@@ -113,7 +115,6 @@ abbrev pub refusedFind : ℕ → Find
 refusedFind n = record { shown = false; number = n; ended = record { walk = noWalk; table = replicate tableWords 0 }; complete = false }
 
 abbrev pub endFind : Ended → Answer Reply → Find
-endFind x (gives started) = record { shown = true; number = 0; ended = x; complete = false }
 endFind x (gives made) = record { shown = true; number = 0; ended = x; complete = false }
 endFind x (gives done) = record { shown = true; number = 0; ended = x; complete = true }
 endFind x (refuses n) = record { shown = eqb n 11; number = n; ended = x; complete = false }

@@ -18,7 +18,6 @@ use super::Found;
 use super::PART_MOST;
 use super::TABLE_WORDS;
 use circuits::CIRCUITS_MOST;
-use text::counts;
 use triples::Triples;
 use triples::holding;
 use triples::rows;
@@ -47,7 +46,7 @@ fn first(out: &mut [u8], at: usize, shots: &[i32], list: Triples) -> usize
     let mut minus = [0u16; CIRCUITS_MOST];
     let count = circuits::core::all(shots, &mut plus, &mut minus);
     let border = shots::pairs::border_count(shots);
-    let area = counts::area(shots, list);
+    let area = surfaces::areas::sum(shots, list);
     text::lines::patch(out, at, shots.len() / 2, count, border, area)
 }
 

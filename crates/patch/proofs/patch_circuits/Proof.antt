@@ -1,6 +1,6 @@
 -- `patch::patch_circuits` meets its contract: the room's answer is returned as a number, and the count that it gives is stored.
 use borrow.Author.Needs.{needs}
-use Rattle.circuits.specs.Calls.{readCounted}
+use Rattle.shots.specs.Calls.{readCounted}
 use Rattle.patch.proofs.ReturnLaws.{returned}
 use Rattle.patch.proofs.patch_circuits.Statement.{statement}
 use Rattle.patch.proofs.patch_circuits.Tie as tie

@@ -6,7 +6,8 @@ use native.Mathlib.Omega.{arith}
 use borrow.Author.Needs.{needs}
 use Rattle.triples.specs.Sizes.{wordCount}
 use Rattle.surfaces.specs.Calls.{readSurface, flipOf}
-use Rattle.patch.proofs.ReturnLaws.{in-case, returned, returned-list, row-whole}
+use Rattle.algebra.proofs.WordLaws.{row-whole}
+use Rattle.patch.proofs.ReturnLaws.{in-case, returned, returned-list}
 use Rattle.patch.proofs.patch_flip.Statement.{statement}
 use Rattle.patch.proofs.patch_flip.Tie as tie
 

@@ -4,7 +4,8 @@ use native.Mathlib.Omega.{arith}
 use borrow.Author.Needs.{needs}
 use Rattle.triples.specs.Sizes.{wordCount}
 use Rattle.lists.specs.Calls.{readTested, testOf}
-use Rattle.patch.proofs.ReturnLaws.{returned, row-whole}
+use Rattle.algebra.proofs.WordLaws.{row-whole}
+use Rattle.patch.proofs.ReturnLaws.{returned}
 use Rattle.patch.proofs.patch_test.Statement.{statement}
 use Rattle.patch.proofs.patch_test.Tie as tie
 

@@ -6,7 +6,8 @@ use native.Mathlib.Omega.{arith}
 use borrow.Author.Needs.{needs}
 use Rattle.triples.specs.Sizes.{wordCount}
 use Rattle.records.specs.Calls.{leftIn, writeSurfaceOf}
-use Rattle.patch.proofs.ReturnLaws.{returned-writing, row-whole}
+use Rattle.algebra.proofs.WordLaws.{row-whole}
+use Rattle.patch.proofs.ReturnLaws.{returned-writing}
 use Rattle.patch.proofs.patch_write_surface.Statement.{statement}
 use Rattle.patch.proofs.patch_write_surface.Tie as tie
 

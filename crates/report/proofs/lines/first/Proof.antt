@@ -10,7 +10,7 @@ use Rattle.algebra.specs.Loops.{tally}
 use Rattle.shots.specs.Patch.{countOf}
 use Rattle.shots.specs.Calls.{bordersOf}
 use Rattle.shots.proofs.Patch.{patch-few, patch-near}
-use Rattle.circuits.specs.Numbered.{circuitsOf}
+use Rattle.circuits.specs.Numbering.{circuitsOf}
 use Rattle.circuits.proofs.FilledLaws.{poured-count}
 use Rattle.triples.specs.Sets.{wordsOf}
 use Rattle.surfaces.specs.Areas.{areaSumOf}
@@ -32,8 +32,8 @@ border-count-requires c κs =
     let l = s .args .shots .now in
     (patch-few l (s .pre .0) .1, patch-near l (s .pre .0))
 
-area-requires : tie.Need-area-requires
-area-requires c κs =
+sum-requires : tie.Need-sum-requires
+sum-requires c κs =
     let s = c .before .before .before .before .before .before .before in
     let l = s .args .shots .now in
     (patch-near l (s .pre .0), patch-few l (s .pre .0) .1)
@@ -50,7 +50,7 @@ returns c =
     let s = a .before .before .before .before .before .before .before in
     let e = d .patch .ensures in (
       put-same (s .args .out .now) (s .args .at) (d .patch .last .0)
-          (line-is (s .args .shots .now) (wordsOf (s .args .list)) (poured-count _ _ _ _ _ _ (a .before .before .before .all .ensures)) (a .border-count .ensures) (d .before .before .area .ensures)) (e .0),
+          (line-is (s .args .shots .now) (wordsOf (s .args .list)) (poured-count _ _ _ _ _ _ (a .before .before .before .all .ensures)) (a .border-count .ensures) (d .before .before .sum .ensures)) (e .0),
       omega (arith, e .1),
     )
 
@@ -62,7 +62,7 @@ first-spec =
     (λ c. search needs)
     all-requires
     border-count-requires
-    area-requires
+    sum-requires
     (λ c κs. search needs)
     (λ c. search needs)
     returns)

@@ -6,9 +6,9 @@ use lib.ListN.{replicate}
 use lib.IntN.{ℤ}
 use borrow.Author.Needs.{needs}
 use Rattle.algebra.specs.Answer.{Answer}
-use Rattle.reach.specs.Walks.{WalkRecord, Reply, Landing, leaves, runOf, startOf}
+use Rattle.reach.specs.Walks.{WalkRecord, Begun, Reply, Landing, leaves, runOf, startOf}
 use Rattle.triples.specs.Sets.{wordsOf}
-use Rattle.walks.specs.Calls.{plane, afterStep}
+use Rattle.walks.specs.Calls.{groundOf, afterStep}
 use Rattle.report.specs.Sizes.{tableWords, stepsMost}
 use Rattle.report.specs.Report.{noWalk, begunOf, walkOf, endFind, walkFind}
 use Rattle.report.proofs.walked.from.Statement.{statement}
@@ -16,18 +16,18 @@ use Rattle.report.proofs.walked.from.Tie as tie
 
 module _ (l : List ℤ) (w : List ℕ) where
   -- a start in a table of zeros
-  begun : {x : Landing} (t : List ℕ) → x ≡ startOf (plane l) t noWalk w → t ≡ replicate tableWords 0 → x ≡ begunOf l w
+  begun : {x : Landing Begun} (t : List ℕ) → x ≡ startOf (groundOf l) t noWalk w → t ≡ replicate tableWords 0 → x ≡ begunOf l w
   unfolding begunOf
-  begun t e z = e ∙ ap (λ (u : List ℕ). startOf (plane l) u noWalk w) z
+  begun t e z = e ∙ ap (λ (u : List ℕ). startOf (groundOf l) u noWalk w) z
 
   -- a run from where the start ended
-  run-from : (t : List ℕ) (v : WalkRecord) (a : Answer Reply) → leaves t v a ≡ begunOf l w → runOf (plane l) t v stepsMost ≡ walkOf l w
+  run-from : (t : List ℕ) (v : WalkRecord) (a : Answer Begun) → leaves t v a ≡ begunOf l w → runOf (groundOf l) t v stepsMost ≡ walkOf l w
   unfolding walkOf
-  run-from t v a e = λ k. runOf (plane l) (e k .table) (e k .walk) stepsMost
+  run-from t v a e = λ k. runOf (groundOf l) (e k .table) (e k .walk) stepsMost
 
-  find-of : (x : Landing) → x ≡ walkOf l w → endFind (record { walk = x .walk; table = x .table }) (x .answer) ≡ walkFind l w
+  find-of : (x : Landing Reply) → x ≡ walkOf l w → endFind (record { walk = x .walk; table = x .table }) (x .answer) ≡ walkFind l w
   unfolding walkFind
-  find-of x e = ap (λ (y : Landing). endFind (record { walk = y .walk; table = y .table }) (y .answer)) e
+  find-of x e = ap (λ (y : Landing Reply). endFind (record { walk = y .walk; table = y .table }) (y .answer)) e
 
 -- where the walk ends
 module _ (c : tie.After-run-at) where
