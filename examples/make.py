@@ -10,6 +10,8 @@ SQUARE = [(0, 0), (2, 0), (2, 2), (0, 2), (1, 1)]
 PAD = [(0, 0), (12000, 0), (12000, 9000), (0, 9000), (3000, 4000), (9000, 5000)]
 # the same pad after shots 4 and 5 traded their numbers
 TRADED = PAD[:4] + [PAD[5], PAD[4]]
+# eight shots around a pond: 132 surfaces
+EIGHT = [(1000, 0), (2000, 0), (3000, 1000), (3000, 2000), (2000, 3000), (1000, 3000), (0, 2000), (0, 1000)]
 # ten shots over a mound
 TEN = [(0, 0), (4100, -350), (8200, 150), (9000, 4300), (6900, 7600), (2400, 7900), (-600, 4200), (3000, 3100), (5600, 4400), (4300, 5900)]
 
@@ -43,6 +45,7 @@ RECORDS = {
     # the list stayed in the store while the shots traded numbers: the surface folds over itself
     "traded.patch": patch(TRADED),
     "traded.surface": surface(6, PAD_LIST),
+    "eight.patch": patch(EIGHT),
     "ten.patch": patch(TEN),
     # damaged in the store
     "cut.patch": patch(PAD)[:-3],

@@ -16,6 +16,7 @@ use std::io::{self, Read, Write};
 use surface::Surface;
 
 const TABLE_ROWS: usize = 4096;
+const STREAM_MOST: usize = 524_288;
 
 fn row_line(row: usize, surface: &Surface) -> String {
     let used: BTreeSet<_> = surface.iter().flatten().collect();
@@ -43,6 +44,7 @@ fn main() -> io::Result<()> {
     io::stdin().read_to_end(&mut input)?;
     let output = match std::env::args().nth(1).as_deref() {
         Some("patchwalk") => patchwalk(&input).unwrap_or_else(|refusal| format!("refused {}\n", refusal as u8)),
+        Some("runcases") if input.len() > STREAM_MOST => "stream too long\n".into(),
         Some("runcases") => runcases(std::str::from_utf8(&input).expect("a stream of text")),
         _ => {
             eprintln!("usage: second patchwalk < record, or second runcases < stream");

@@ -1,5 +1,6 @@
 // patchwalk: reads one patch record on standard input, walks from its placing surface over all surfaces that flips reach, and prints them.
-// The lines of the report are proved functions of the bytes read (crates/report); here they are read and written, a part at a time.
+// The lines of the report are proved functions of the bytes read (crates/report); here they are read and written, a part at a time. A write that fails ends it: what
+// was written is a front of the report, and its last line tells whether it is whole.
 ghost use Prim.Native.Nat.{_-_, _≤_, _<_};
 ghost use Rattle.report.specs.Sizes.{partLines};
 use libc::STDIN_FILENO;
@@ -30,7 +31,9 @@ fn main() {
     while from < lines {
         let to = behind(from, lines);
         let k = report::lines::part(&input[..n], &table, found, from, to, &mut text);
-        io::write_all(STDOUT_FILENO, &text[..k]);
+        if !io::write_all(STDOUT_FILENO, &text[..k]) {
+            return;
+        }
         from = to;
     }
 }

@@ -23,13 +23,6 @@ fn counted(answer: shots::Counted) {
     }
 }
 
-fn counted_circuits(answer: circuits::Counted) {
-    match answer {
-        circuits::Counted::Count(k) => show::field(b" count ", k as u64),
-        circuits::Counted::Refused(n) => show::refused(n),
-    }
-}
-
 fn oriented(answer: shots::Oriented) {
     match answer {
         shots::Oriented::Sign(s) => show::sign(s),
@@ -145,7 +138,7 @@ fn of_shots(line: &[u8], shots: &[i32], a: usize, b: usize, c: usize) -> bool {
 
 fn of_lists(line: &[u8], shots: &[i32], a: usize, list: Triples, z: usize) -> bool {
     if parse::is(line, b"circuits") {
-        counted_circuits(circuits::count(shots));
+        counted(circuits::count(shots));
         return true;
     }
     if parse::is(line, b"circuit") {

@@ -6,8 +6,10 @@ mod calls;
 mod parse;
 mod show;
 
-// The longest stream, run of coordinates, run of bytes, and table.
+// The longest stream, run of coordinates, run of bytes, and table. The room for the stream is one byte more, so that what is longer is seen to be.
 const STREAM_MOST: usize = 524288;
+
+const STREAM_ROOM: usize = STREAM_MOST + 1;
 
 const SHOTS_ROOM: usize = 64;
 
@@ -15,7 +17,7 @@ const BYTES_ROOM: usize = 65600;
 
 const TABLE_ROOM: usize = 131080;
 
-fn load(stream: &mut [u8; STREAM_MOST]) -> usize
+fn load(stream: &mut [u8; STREAM_ROOM]) -> usize
     ensures { λ r. ⌜ Counts r (now (stream .exit)) ⌝ }
 {
     io::read_full(STDIN_FILENO, stream)
@@ -37,8 +39,11 @@ fn all(
 }
 
 fn main() {
-    let mut stream = [0u8; STREAM_MOST];
+    let mut stream = [0u8; STREAM_ROOM];
     let n = load(&mut stream);
+    if STREAM_MOST < n {
+        return show::text(b"stream too long\n");
+    }
     let mut first = [0u64; BYTES_ROOM];
     let mut second = [0u64; TABLE_ROOM];
     let mut bytes = [0u8; BYTES_ROOM];

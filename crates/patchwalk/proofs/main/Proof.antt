@@ -1,4 +1,4 @@
--- `patchwalk::main` meets its contract: what each call requires holds, each part begins where the last one ended, and the lines come to an end.
+-- `patchwalk::main` meets its contract: what each call requires holds, each part begins where the last one ended, and the lines come to an end, or the writing does.
 use mathlib.Core.Path.{sym, _∙_, ap, subst}
 use Prim.Native.Nat.{_-_, _≤_}
 use native.Mathlib.Omega.{arith}
@@ -46,6 +46,7 @@ main-spec =
     (λ c. search needs)
     (λ c. search needs)
     (λ c κs. search needs)
+    (λ c. search needs)
     (λ c. search needs)
     (λ c. search needs)
     (λ c. search needs))
