@@ -116,8 +116,8 @@ abbrev others : List ℕ
 others = triples (tri 0 1 3 ∷ tri 1 2 3 ∷ [])
 
 -- one half, and the other with an edge split at the centre
-abbrev split : List ℕ
-split = triples (tri 0 1 2 ∷ tri 0 3 4 ∷ tri 2 3 4 ∷ [])
+abbrev halfCut : List ℕ
+halfCut = triples (tri 0 1 2 ∷ tri 0 3 4 ∷ tri 2 3 4 ∷ [])
 
 -- the four triangles around the centre
 abbrev around : List ℕ
@@ -153,8 +153,8 @@ table =
     ∷ of-square (areas halves) (sum 8)
     ∷ of-square (test (triples (tri 0 1 2 ∷ []))) (refused 9)
     ∷ of-square (test (triples (tri 0 1 2 ∷ tri 0 2 3 ∷ tri 0 1 3 ∷ []))) (refused 8)
-    ∷ of-square (test split) (refused 8)
-    ∷ of-square (areas split) (sum 8)
+    ∷ of-square (test halfCut) (refused 8)
+    ∷ of-square (areas halfCut) (sum 8)
     ∷ of-square (test (triples [])) (refused 10)
     ∷ of-square (test (triples (tri 0 2 4 ∷ []))) (refused 7)
     ∷ of-square (flip halves 2) (surface (gives others))
