@@ -1,4 +1,4 @@
--- Every proved case of document 01 holds, by computation on the definitions that the contracts cite.
+-- Every proved case of document 01 holds (`cases-right`), by computation on the definitions that the contracts cite.
 use mathlib.Core.Path.{_≡_, refl}
 use mathlib.Core.List.{map}
 use Rattle.algebra.specs.Answer.{chain, refusal}

@@ -1,7 +1,7 @@
 -- The proved cases of document 01, "The square with its centre", as one table: a patch, what is asked of it, and the answer that document 01 states; of its run cases those of the walk.
 --
 --   Question      a call and its numbers; or the double areas of a list, summed
---   Reply         an answer: a value or the number that refuses; or a sum
+--   Told         an answer: a value or the number that refuses; or a sum
 --   replyTo l q   what the call answers, by the definition that its contract cites; or the sum, by that which the report cites
 --   Case, table   the cases
 --   triples ts    the words of a list of triples
@@ -16,7 +16,7 @@ use lib.ListN.{replicate}
 use lib.IntN.{ℤ, pos, negsuc}
 use Rattle.algebra.specs.Answer.{Answer, gives, refuses}
 use Rattle.algebra.specs.Words.{putIn}
-use Rattle.reach.specs.Walks.{Reply as Said, made, done, Landing, runOf, startOf}
+use Rattle.reach.specs.Walks.{Reply, made, done, Landing, runOf, startOf}
 use Rattle.shots.specs.Calls.{Cocircuit, orientationOf, cocircuitOf, borderCallOf}
 use Rattle.circuits.specs.declared.Sides.{Sides}
 use Rattle.circuits.specs.Sides.{masks}
@@ -40,20 +40,20 @@ pub data Question : Type 0 where
   flip : List ℕ → ℕ → Question
   walk : List ℕ → List ℕ → ℕ → Question
 
-pub data Reply : Type 0 where
-  sign : Answer ℤ → Reply
-  signs : Cocircuit → Reply
-  count : Answer ℕ → Reply
-  sides : Answer Sides → Reply
-  tested : Answer (Unit {0}) → Reply
-  sum : ℕ → Reply
-  surface : Answer (List ℕ) → Reply
-  walked : Landing Said → Reply
+pub data Told : Type 0 where
+  sign : Answer ℤ → Told
+  signs : Cocircuit → Told
+  count : Answer ℕ → Told
+  sides : Answer Sides → Told
+  tested : Answer (Unit {0}) → Told
+  sum : ℕ → Told
+  surface : Answer (List ℕ) → Told
+  walked : Landing Reply → Told
 
-abbrev pub walkFrom : List ℤ → List ℕ → List ℕ → ℕ → Landing Said
+abbrev pub walkFrom : List ℤ → List ℕ → List ℕ → ℕ → Landing Reply
 walkFrom l w t b = let x = startOf (groundOf l) t (record { rows = 0; step = 0 }) w in runOf (groundOf l) (x .table) (x .walk) b
 
-abbrev pub replyTo : List ℤ → Question → Reply
+abbrev pub replyTo : List ℤ → Question → Told
 replyTo l (orientation a b c) = sign (orientationOf l a b c)
 replyTo l (cocircuit i j) = signs (cocircuitOf l i j)
 replyTo l border = count (borderCallOf l)
@@ -68,7 +68,7 @@ replyTo l (walk w t b) = walked (walkFrom l w t b)
 pub record Case : Type 0 where
   pub patch : List ℤ
   pub asked : Question
-  pub stated : Reply
+  pub stated : Told
 
 abbrev pub square : List ℤ
 square = pos 0 ∷ pos 0 ∷ pos 2 ∷ pos 0 ∷ pos 2 ∷ pos 2 ∷ pos 0 ∷ pos 2 ∷ pos 1 ∷ pos 1 ∷ []
@@ -78,20 +78,20 @@ triangle = pos 0 ∷ pos 0 ∷ pos 1 ∷ pos 0 ∷ pos 0 ∷ pos 1 ∷ []
 
 -- ---- document 01's words
 
-abbrev positive : Reply
+abbrev positive : Told
 positive = sign (gives (pos 1))
 
-abbrev negative : Reply
+abbrev negative : Told
 negative = sign (gives (negsuc 0))
 
-abbrev flat : Reply
+abbrev flat : Told
 flat = sign (gives (pos 0))
 
 -- the signs of the five shots, and 0 past them
-abbrev five : ℤ → ℤ → ℤ → ℤ → ℤ → Reply
+abbrev five : ℤ → ℤ → ℤ → ℤ → ℤ → Told
 five a b c d e = signs (record { answer = gives tt; signs = a ∷ b ∷ c ∷ d ∷ e ∷ pos 0 ∷ pos 0 ∷ pos 0 ∷ pos 0 ∷ pos 0 ∷ [] })
 
-abbrev _against_ : List ℕ → List ℕ → Reply
+abbrev _against_ : List ℕ → List ℕ → Told
 _against_ p m = sides (gives (masks (record { plus = p; minus = m })))
 
 -- a list of triples of the five shots, as its words
@@ -102,10 +102,10 @@ triples (t ∷ ts) = putIn (triples ts) (rankOf 5 t)
 abbrev tri : ℕ → ℕ → ℕ → List ℕ
 tri i j k = i ∷ j ∷ k ∷ []
 
-abbrev accepted : Reply
+abbrev accepted : Told
 accepted = tested (gives tt)
 
-abbrev refused : ℕ → Reply
+abbrev refused : ℕ → Told
 refused n = tested (refuses n)
 
 -- the two halves of the square on one diagonal, and on the other
@@ -132,10 +132,10 @@ abbrev used : ℕ → List ℕ
 used n = replicate n 7
 
 -- a walk's answer, its rows, its step number and the whole table
-abbrev left : Answer Said → ℕ → ℕ → List ℕ → Reply
+abbrev left : Answer Reply → ℕ → ℕ → List ℕ → Told
 left a n s t = walked (record { answer = a; walk = record { rows = n; step = s }; table = t })
 
-abbrev of-square : Question → Reply → Case
+abbrev of-square : Question → Told → Case
 of-square q r = record { patch = square; asked = q; stated = r }
 
 abbrev pub table : List Case

@@ -191,7 +191,7 @@ module _ (l : List ℤ) (ok : refusalOf l ≡ 0) where
   -- ---- the two sides meet
 
   -- a circuit and a dependency of the same shots
-  pub record Meets (z : TwoSides) (f : ℕ → ℤ) : Type 0 where
+  record Meets (z : TwoSides) (f : ℕ → ℤ) : Type 0 where
     pub kind : Planar n P f
     pub same : Same (signIn z) (λ i. signOf (f i))
 

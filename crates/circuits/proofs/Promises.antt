@@ -36,7 +36,7 @@ use Rattle.shots.proofs.Promises.{shots-decided, shots-kept, counted-one}
 use Rattle.circuits.specs.Sides.{masks, maskSigns}
 use Rattle.circuits.specs.Numbering.{circuitsOf}
 use Rattle.circuits.specs.Lines.{NotCircuit, circuitLines}
-use Rattle.circuits.specs.Calls.{readSplit, circuitAt, signsOf, countCallOf, circuitRule, circuitCallOf, NumberOf}
+use Rattle.circuits.specs.Calls.{readSplit, circuitAt, signsOf, countCallOf, circuitRule, circuitCallOf, GivenFor}
 use Rattle.circuits.specs.declared.Split.{Split}
 use Rattle.circuits.specs.declared.Split.the-variants as S
 use Rattle.circuits.specs.declared.Sides.{Sides}
@@ -122,20 +122,20 @@ module _ (l : List ℤ) where
   pub circuit-agrees : (z : ℕ) (s : Sides) → circuitCallOf l z ≡ gives s → Circuit (countOf l) (patchOf l) (maskSigns s)
   circuit-agrees z s e = let (ok, h, _) = given z s e in circuit-alike (λ i _. given-signs z s e i) (circuit-published l ok z h)
 
-  pub number-signs : (X : SignVector) (z : ℕ) → NumberOf l X z → (z < length (circuitsOf l)) × (Alike (countOf l) X (signsOf l z) ⊎ Alike (countOf l) X (against (signsOf l z)))
+  pub number-signs : (X : SignVector) (z : ℕ) → GivenFor l X z → (z < length (circuitsOf l)) × (Alike (countOf l) X (signsOf l z) ⊎ Alike (countOf l) X (against (signsOf l z)))
   number-signs X z (s, e, a) = (given z s e .1, go a)
     where
       go : Alike (countOf l) X (maskSigns s) ⊎ Alike (countOf l) X (against (maskSigns s)) → Alike (countOf l) X (signsOf l z) ⊎ Alike (countOf l) X (against (signsOf l z))
       go (inl a) = inl (λ i k. a i k ∙ sym (given-signs z s e i))
       go (inr a) = inr (λ i k. a i k ∙ ap opposite (sym (given-signs z s e i)))
 
-  pub number-published : (X : SignVector) (z : ℕ) → NumberOf l X z → Circuit (countOf l) (patchOf l) X
+  pub number-published : (X : SignVector) (z : ℕ) → GivenFor l X z → Circuit (countOf l) (patchOf l) X
   number-published X z (s, e, a) = ⊎-elim (λ b. circuit-alike (λ i k. sym (b i k)) (circuit-agrees z s e)) (λ b. circuit-alike (λ i k. sym (b i k)) (circuit-against (circuit-agrees z s e))) a
 
-  pub circuit-given : Clear (shotLines l) → (X : SignVector) → Circuit (countOf l) (patchOf l) X → (z : ℕ) × NumberOf l X z × ((z′ : ℕ) → NumberOf l X z′ → z′ ≡ z)
+  pub circuit-given : Clear (shotLines l) → (X : SignVector) → Circuit (countOf l) (patchOf l) X → (z : ℕ) × GivenFor l X z × ((z′ : ℕ) → GivenFor l X z′ → z′ ≡ z)
   circuit-given c X x = go (published-numbered l (shots-kept l .0 c) X x)
     where
-      go : (z : ℕ) × (z < length (circuitsOf l)) × (Alike (countOf l) X (signsOf l z) ⊎ Alike (countOf l) X (against (signsOf l z))) → (z : ℕ) × NumberOf l X z × ((z′ : ℕ) → NumberOf l X z′ → z′ ≡ z)
+      go : (z : ℕ) × (z < length (circuitsOf l)) × (Alike (countOf l) X (signsOf l z) ⊎ Alike (countOf l) X (against (signsOf l z))) → (z : ℕ) × GivenFor l X z × ((z′ : ℕ) → GivenFor l X z′ → z′ ≡ z)
       go (z, h, a) = (z, (masks (circuitAt l z), call, at a), λ z′ d. let (h′, b) = number-signs X z′ d in numbered-once l z′ z h′ h (alike-joined b a))
         where
           late : length (circuitsOf l) ≤ z → ⊥

@@ -7,7 +7,8 @@
 --   sides-apart         no shot is on both sides
 --   masks-low           the masks of a circuit of n shots are below 2 ^ n
 --   masks-signs         its signs are those of its two masks
---   shots-in            the shots of a circuit are those of its source
+--   shots-made          the shots of a circuit are those of its terms
+--   shots-in            and those of its source
 --   circuits-in-order   fewer shots first, and sets of one size in lexicographic order
 --   numbers-in-order    the same for two numbers
 use mathlib.Core.Path.{_≡_, refl, sym, _∙_, ap}

@@ -5,7 +5,7 @@
 --   circuitCallOf l z        the two sides of circuit z, as masks over shots; or 1-4, 12
 --   circuitAt l z, signsOf l z    circuit z, and its signs
 --   circuitRule l z          12: the number is not below C
---   NumberOf l X z           z is the number of the circuit with the signs X: what `circuit` gives for z has these signs, or all of them turned
+--   GivenFor l X z           the circuit with the signs X is given for z: what `circuit` gives for z has these signs, or all of them turned
 --
 -- That these are the published circuits: proofs/Promises (`circuit-agrees`, `circuit-given`). Source: document 01, "Circuits".
 use mathlib.Core.Path.{_≡_}
@@ -45,5 +45,5 @@ circuitRule l z = record { number = 12; broken = leb (length (circuitsOf l)) z }
 unfoldable pub circuitCallOf : List ℤ → ℕ → Answer Sides
 circuitCallOf l z = chain (shotRules l ++ circuitRule l z ∷ []) (masks (circuitAt l z))
 
-abbrev pub NumberOf : List ℤ → SignVector → ℕ → Type 0
-NumberOf l X z = (s : Sides) × (circuitCallOf l z ≡ gives s) × (Alike (countOf l) X (maskSigns s) ⊎ Alike (countOf l) X (against (maskSigns s)))
+abbrev pub GivenFor : List ℤ → SignVector → ℕ → Type 0
+GivenFor l X z = (s : Sides) × (circuitCallOf l z ≡ gives s) × (Alike (countOf l) X (maskSigns s) ⊎ Alike (countOf l) X (against (maskSigns s)))

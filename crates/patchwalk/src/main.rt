@@ -1,6 +1,6 @@
 // patchwalk: reads one patch record on standard input, walks from its placing surface over all surfaces that flips reach, and prints them.
 // The lines of the report are proved functions of the bytes read (crates/report); here they are read and written, a part at a time. A write that fails ends it: what
-// was written is a front of the report, and its last line tells whether it is whole.
+// was written is then a front of the report, and not all of it.
 ghost use Prim.Native.Nat.{_-_, _≤_, _<_};
 ghost use Rattle.report.specs.Sizes.{partLines};
 use libc::STDIN_FILENO;

@@ -21,7 +21,7 @@ use Rattle.algebra.proofs.AnswerLaws.{given-refused, chain-refuses, chain-gives
 use Rattle.reach.specs.Walks.{Ground, WalkRecord, started, Reply, made, done, Landing, leaves, onlyIf, capacityOf, seenIn, impossible, walkRules, counted, grown}
 use Rattle.reach.specs.Walks.{storeOf, afterFlip, tryOf, stepOf, begin, startOf}
 use Rattle.reach.specs.Reach.{Stands}
-use Rattle.reach.specs.Lines.{Lines, Says, first-holds, none-holds, FlipSays, row-refused, no-flip, flipped, Lined, during, NoRow, startLines}
+use Rattle.reach.specs.Lines.{Lines, Says, first-line, no-line, FlipSays, row-refused, no-flip, flipped, Lined, during, NoRow, startLines}
 use Rattle.reach.specs.Lines.{Impossible, walkLines, Ahead, rowAt, circuitNumber, Flips, New, Full, stepLines}
 use Rattle.reach.proofs.ReachLaws.{tried-circuit}
 use Rattle.reach.proofs.StepLaws.{seen-reflects, impossible-reflects, after-refused, done-made}
@@ -45,23 +45,23 @@ clear-never (x ∷ ls) h = (λ q. h (q .0), clear-never ls h)
 
 module _ {A : Type 0} {v : A} (ls : List Line) where
   says-refuses : {a : Answer A} → Says v ls a → (n : ℕ) → (a ≡ refuses n) ↔ First n ls
-  says-refuses (first-holds m f) n = (λ e. let q : m ≡ n = cc in rw q at f, λ g. ap refuses (first-one m n ls f g))
-  says-refuses (none-holds c) n = (λ e. given-refused e, λ f. first-clear n ls f c)
+  says-refuses (first-line m f) n = (λ e. let q : m ≡ n = cc in rw q at f, λ g. ap refuses (first-one m n ls f g))
+  says-refuses (no-line c) n = (λ e. given-refused e, λ f. first-clear n ls f c)
 
   says-gives : {a : Answer A} → Says v ls a → (u : A) → (a ≡ gives u) ↔ (Clear ls × (v ≡ u))
-  says-gives (first-holds m f) u = (λ e. given-refused (sym e), λ p. first-clear m ls f (p .0))
-  says-gives (none-holds c) u = (λ e. (c, cc), λ p. ap gives (p .1))
+  says-gives (first-line m f) u = (λ e. given-refused (sym e), λ p. first-clear m ls f (p .0))
+  says-gives (no-line c) u = (λ e. (c, cc), λ p. ap gives (p .1))
 
   says-before : (ks : List Line) {n : ℕ} → First n ks → Says v (ks ++ ls) (refuses n)
-  says-before ks {n} f = first-holds n (first-append n ks ls .1 (inl f))
+  says-before ks {n} f = first-line n (first-append n ks ls .1 (inl f))
 
   says-behind : (ks : List Line) → Clear ks → {a : Answer A} → Says v ls a → Says v (ks ++ ls) a
-  says-behind ks c (first-holds n f) = first-holds n (first-append n ks ls .1 (inr (c, f)))
-  says-behind ks c (none-holds d) = none-holds (clear-append ks ls .1 (c, d))
+  says-behind ks c (first-line n f) = first-line n (first-append n ks ls .1 (inr (c, f)))
+  says-behind ks c (no-line d) = no-line (clear-append ks ls .1 (c, d))
 
   says-during : {B : Type 0} → B → {a : Answer A} → Says v ls a → Says v (during B ls) a
-  says-during b (first-holds n f) = first-holds n (first-during n ls b f)
-  says-during {B} b (none-holds c) = none-holds (clear-during B ls c)
+  says-during b (first-line n f) = first-line n (first-during n ls b f)
+  says-during {B} b (no-line c) = no-line (clear-during B ls c)
 
 -- rules in front of a landing: one is broken and its number is answered, or they let it pass
 abbrev pub Fronted : List ℕ → WalkRecord → List Rule → List Line → Landing Reply → Type 0
@@ -86,12 +86,12 @@ module _ {g : Ground} {L : Lines} (lined : Lined g L) (t : List ℕ) (w : WalkRe
     start-says = go (lined .tests r)
       where
         room : {b : Bool} → Reflects (NoRow g t) b → Says started (roomLine ∷ []) (cond b (leaves t w (refuses 11)) (leaves (setRow t 0 r) (record { rows = 1; step = 0 }) (gives started)) .answer)
-        room (holds h) = first-holds 11 (inl (h, refl))
-        room (fails h) = none-holds (h, tt)
+        room (holds h) = first-line 11 (inl (h, refl))
+        room (fails h) = no-line (h, tt)
 
         go : {a : Answer (Unit {0})} → Says tt (L .before ++ L .test r) a → Says started (startLines g L r t) (begin g t w r a .answer)
-        go (first-holds n f) = says-before (roomLine ∷ []) (L .before ++ L .test r) f
-        go (none-holds c) = says-behind (roomLine ∷ []) (L .before ++ L .test r) c (room (reflects-eqb (capacityOf (g .words) (length t)) 0))
+        go (first-line n f) = says-before (roomLine ∷ []) (L .before ++ L .test r) f
+        go (no-line c) = says-behind (roomLine ∷ []) (L .before ++ L .test r) c (room (reflects-eqb (capacityOf (g .words) (length t)) 0))
 
     pub start-refuses : (n : ℕ) → (startOf g t w r .answer ≡ refuses n) ↔ First n (startLines g L r t)
     start-refuses n = says-refuses (startLines g L r t) start-says n
@@ -146,14 +146,14 @@ module _ {g : Ground} {L : Lines} (lined : Lined g L) (t : List ℕ) (w : WalkRe
       go : {a b : Bool} → Reflects (Stands (g .words) t (w .rows) (L .result row z)) a → Reflects (Full g t w) b
           → Says made (fullLine ∷ [])
           (cond a (leaves t (counted w) (gives made)) (cond b (leaves t w (refuses 11)) (leaves (setRow t (w .rows) (L .result row z)) (grown w) (gives made))) .answer)
-      go (holds h) d = none-holds (λ q. q .1 h, tt)
-      go (fails h) (holds f) = first-holds 11 (inl ((k, h, f), refl))
-      go (fails h) (fails f) = none-holds (λ q. f (q .2), tt)
+      go (holds h) d = no-line (λ q. q .1 h, tt)
+      go (fails h) (holds f) = first-line 11 (inl ((k, h, f), refl))
+      go (fails h) (fails f) = no-line (λ q. f (q .2), tt)
 
   -- by the row, or 13, which is no refusal of the step, or the list
   flip-says : {x : Answer (List ℕ)} → FlipSays L row z x → Says made triedLines (afterFlip g t w x .answer)
   flip-says (row-refused n ne f) = rw (after-refused g t w n ne) (says-before (fullLine ∷ []) (L .row row z) f)
-  flip-says (no-flip c k) = none-holds (clear-append (L .row row z) (fullLine ∷ []) .1 (c, (λ q. q .0 k, tt)))
+  flip-says (no-flip c k) = no-line (clear-append (L .row row z) (fullLine ∷ []) .1 (c, (λ q. q .0 k, tt)))
   flip-says (flipped c k) = store-says c k
 
   -- what a step answers that is not refused
@@ -166,7 +166,7 @@ module _ {g : Ground} {L : Lines} (lined : Lined g L) (t : List ℕ) (w : WalkRe
     where
       go : {b : Bool} → Reflects (w .step ≡ w .rows * g .circuits) b
           → Says (cond b done made) (during (Ahead g w) triedLines) (cond b (leaves t w (gives done)) (afterFlip g t w (g .flip row z)) .answer)
-      go (holds e) = none-holds (clear-never triedLines (λ a. a e))
+      go (holds e) = no-line (clear-never triedLines (λ a. a e))
       go (fails a) = let (passed, possible) = walk-clear c in says-during triedLines a (flip-says (lined .flips passed row z (circuit-below possible a)))
 
   step-says : Says replyOf (stepLines g L t w) (stepOf g t w .answer)

@@ -1,4 +1,4 @@
--- The table keeps its length, and its words behind the last whole row, whatever is walked over.
+-- The table keeps its length, over any ground; and its words behind the last whole row, where the flip keeps the number of words.
 --
 --   Long t l                           the landing l has a table as long as t
 --   step-long, run-long, start-long    so has a step's, a run's and a start's

@@ -21,7 +21,7 @@
 --   stepLines g L t w     the table of a step
 --   RunRefuses g L t w b n    the run is: at its first tests, or at a step after k steps that were made
 --
--- The theorems: proofs/LineLaws. Source: document 01, "The walk", "Refusal numbers".
+-- The theorems: proofs/LineLaws; of a run: proofs/Runs. Source: document 01, "The walk", "Refusal numbers".
 use mathlib.Core.Path.{_≡_}
 use mathlib.Core.Logic.{_⊎_}
 use mathlib.Core.List.{List, [], _∷_, _++_}
@@ -42,8 +42,8 @@ pub record Lines : Type 1 where
   pub result : List ℕ → ℕ → List ℕ
 
 pub data Says {A : Type 0} (v : A) (ls : List Line) : Answer A → Type 0 where
-  first-holds : (n : ℕ) → First n ls → Says v ls (refuses n)
-  none-holds : Clear ls → Says v ls (gives v)
+  first-line : (n : ℕ) → First n ls → Says v ls (refuses n)
+  no-line : Clear ls → Says v ls (gives v)
 
 pub data FlipSays (L : Lines) (r : List ℕ) (z : ℕ) : Answer (List ℕ) → Type 0 where
   row-refused : (n : ℕ) → (n ≡ 13 → ⊥) → First n (L .row r z) → FlipSays L r z (refuses n)

@@ -2,7 +2,7 @@
 --
 --   FlipsTo g r z r′      the flip of r along circuit z gives r′
 --   Keeps g               a flip keeps the number of words
---   Sound g               what is asked of the flip and the test: that, and that an accepted list passes the first rules
+--   Sound g               what is asked of a ground: that, that its first rules have numbers that are not 0, and that an accepted list passes them
 --   Walked g r₀ t w       the table t and the record w were written by an accepted start from r₀ and then by steps and runs alone;
 --                         in between the rows in use may have moved to any table that has room for them
 --   Listing g r₀ t w      the promise at any time:

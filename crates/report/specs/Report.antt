@@ -1,4 +1,4 @@
--- What `patchwalk` prints for the bytes that it reads, all of it.
+-- The report of the bytes that `patchwalk` reads: all its text. That the program prints its parts in their order is outside the proof.
 --
 --   noWalk, begunOf l w    the record before the start; what the start from the list w leaves, in a table of 4,096 rows
 --   walkOf l w        where the walk from it ends

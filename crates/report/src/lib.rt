@@ -1,4 +1,4 @@
-// Report: all that `patchwalk` prints for one patch record, line by line. It has no call of its own; the program uses its parts.
+// Report: the report of one patch record, line by line. It has no call of its own; `patchwalk` uses its parts, and prints the report part by part.
 pub mod lines;
 pub mod walked;
 

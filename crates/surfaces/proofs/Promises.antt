@@ -47,7 +47,7 @@ use Rattle.shots.proofs.Promises.{shots-decided, shots-kept}
 use Rattle.circuits.specs.Sides.{TwoSides, signIn}
 use Rattle.circuits.specs.Numbering.{circuitsOf}
 use Rattle.circuits.specs.Lines.{NotCircuit}
-use Rattle.circuits.specs.Calls.{circuitAt, signsOf, NumberOf}
+use Rattle.circuits.specs.Calls.{circuitAt, signsOf, GivenFor}
 use Rattle.circuits.proofs.Agreement.{circuit-published}
 use Rattle.circuits.proofs.Promises.{number-signs, circuit-given}
 use Rattle.triples.specs.Sizes.{wordCount}
@@ -255,7 +255,7 @@ module _ (l : List ℤ) where
   flipped-signs X Y (inl a) = (flipped-alike a, flipped-alike (λ i k. sym (a i k)))
   flipped-signs X Y (inr a) = (λ f. flipped-alike (λ i _. opposite-opposite (Y i)) (flipped-against (flipped-alike a f)), λ f. flipped-alike (λ i k. sym (a i k)) (flipped-against f))
 
-  pub flip-along : (w w′ : List ℕ) (X : SignVector) (z : ℕ) → NumberOf l X z → Words wordCount w → Words wordCount w′
+  pub flip-along : (w w′ : List ℕ) (X : SignVector) (z : ℕ) → GivenFor l X z → Words wordCount w → Words wordCount w′
       → (flipOf l w z ≡ gives w′) ↔ (Clear (shotLines l) × Accepted l w × Flipped n (Listed n w) X (Listed n w′) × (PastLast l w′ → ⊥))
   flip-along w w′ X z x v v′ =
       let (h, a) = number-signs l X z x in

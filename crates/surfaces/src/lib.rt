@@ -1,4 +1,4 @@
-// Surfaces: the placing surface of a patch, and the flip of a surface along a circuit.
+// Surfaces: the placing surface of a patch, the flip of a surface along a circuit, and the sum of its areas.
 //
 //   placing    a list                  1-4
 //   flip       a list                  1-4, 7 10 8 9, 12 13

@@ -25,7 +25,7 @@ use lib.IntN.{ℤ}
 use Rattle.algebra.specs.Answer.{Answer, gives, refuses, Line, First, Clear}
 use Rattle.algebra.proofs.AnswerLaws.{one-answer, first-clear, first-append, clear-append}
 use Rattle.reach.specs.Walks.{WalkRecord, Begun, started, Reply, made, done, Landing, leaves, stepOf, stepsOf, runOf, startOf}
-use Rattle.reach.specs.Lines.{Says, first-holds, none-holds, FlipSays, row-refused, no-flip, flipped, Lined}
+use Rattle.reach.specs.Lines.{Says, first-line, no-line, FlipSays, row-refused, no-flip, flipped, Lined}
 use Rattle.reach.specs.Leaving.{MadeStep, RowByRow}
 use Rattle.reach.proofs.StepLaws.{possible-facts, step-possible, step-made-leaves, row-by-row}
 use Rattle.reach.proofs.TableLaws.{Behind}
@@ -57,10 +57,10 @@ use Rattle.walks.proofs.StepsLaws.{flip-keeps}
 
 module _ (l : List ℤ) where
   test-says : (w : List ℕ) (a : Answer (Unit {0})) → testOf l w ≡ a → Says tt (testLines l w) a
-  test-says w (refuses n) e = first-holds n (test-refuses l w n .0 e)
+  test-says w (refuses n) e = first-line n (test-refuses l w n .0 e)
   test-says w (gives v) e =
       let (c, p, g) = test-accepts l w .0 e in
-      none-holds (clear-append (shotLines l) (listLines l w) .1 (c, accepted-iff-triangulation l w .1 (p, g)))
+      no-line (clear-append (shotLines l) (listLines l w) .1 (c, accepted-iff-triangulation l w .1 (p, g)))
 
   -- no refusal of a list is 13
   list-not-13 : (w : List ℕ) (n : ℕ) → First n (listLines l w) → n ≡ 13 → ⊥

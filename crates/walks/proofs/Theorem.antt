@@ -41,7 +41,7 @@ use Rattle.surfaces.proofs.AreaKept.{flip-keeps-area}
 use Rattle.walks.specs.Calls.{groundOf, readWalk, walkAs, startLanding, startCallOf}
 use Rattle.walks.specs.Surfaces.{PublishedFlip, Reachable}
 use Rattle.walks.specs.Reached.{BareFlip, BareReach}
-use Rattle.walks.specs.Demand.{Later, at-once, by-step, by-run, moved, StepsMade, StepDone, NoStepRefused, Demand-3}
+use Rattle.walks.specs.Demand.{Later, at-once, by-step, by-run, moved, StepsMade, StepDone, NoStepRefused, HoldsAll, Demand-3}
 use Rattle.walks.specs.declared.Walk.{Walk}
 use Rattle.walks.specs.declared.Started.the-variants as B
 use Rattle.walks.proofs.StepsLaws.{flip-keeps}
@@ -111,6 +111,13 @@ module _ (l : List ℤ) (w₀ : List ℕ) (v₀ : Words wordCount w₀) where
   first-row : {u : List ℕ} {w : WalkRecord} → Walked (groundOf l) w₀ u w → Clear (shotLines l) × Accepted l w₀
   first-row h = let (c, p, g) = test-accepts l w₀ .0 (walk-tested h) in (c, (p, g))
 
+  reach-listed : {u : List ℕ} {w : WalkRecord} → Walked (groundOf l) w₀ u w → (w′ : List ℕ) → Reach (Along (length (circuitsOf l)) (FlipsTo (groundOf l))) w₀ w′ ↔ Reachable l w₀ w′
+  reach-listed h = let (c, a) = first-row h in reach-published l c w₀ a v₀
+
+  -- at the end it holds all that is reached
+  all-held : {u : List ℕ} {w : WalkRecord} → Walked (groundOf l) w₀ u w → w .step ≡ w .rows * length (circuitsOf l) → (w′ : List ℕ) → Stands wordCount u (w .rows) w′ ↔ Reachable l w₀ w′
+  all-held h e w′ = let s = walk-listing (patch-sound l) w₀ (v₀ .0) h .whole e w′ in let q = reach-listed h w′ in (λ x. q .0 (s .0 x), λ x. s .1 (q .1 x))
+
   -- where it ends
   module _ (u : List ℕ) (v : Walk) (h : WalkedTo u v) where
     abbrev TheEnd : Type 0
@@ -121,6 +128,12 @@ module _ (l : List ℤ) (w₀ : List ℕ) (v₀ : Words wordCount w₀) where
 
     made-to : (e : TheEnd) → StepsMade l u v (e .count) (lastOf e .table) (walkAs (lastOf e .walk))
     made-to e = ap (leaves (lastOf e .table) (lastOf e .walk)) (sym (e .made-all)) ∙ sym (walked-run (patch-sound l) w₀ (v₀ .0) h (e .count))
+
+    walked-there : (e : TheEnd) → Walked (groundOf l) w₀ (lastOf e .table) (lastOf e .walk)
+    walked-there e = subst (λ (x : Landing Reply). Walked (groundOf l) w₀ (x .table) (x .walk)) (walked-run (patch-sound l) w₀ (v₀ .0) h (e .count)) (runs u (readWalk v) (e .count) h)
+
+    held-there : (e : TheEnd) → StepDone l (lastOf e .table) (walkAs (lastOf e .walk)) → HoldsAll l w₀ (lastOf e .table) (walkAs (lastOf e .walk))
+    held-there e d = all-held (walked-there e) (e .counts ∙ e .ends-at d)
 
     -- no step is refused: so it is done
     done-there : NoStepRefused l u v → (e : TheEnd) → StepDone l (lastOf e .table) (walkAs (lastOf e .walk))
@@ -142,11 +155,12 @@ module _ (l : List ℤ) (w₀ : List ℕ) (v₀ : Words wordCount w₀) where
           let b = starts t₀ r₀ begun in
           let e = the-end t r b in
           let d = done-there t r b none e in
-          (e .count, lastOf e .table, walkAs (lastOf e .walk), made-to t r b e, d, ends-from-start (groundOf l) t₀ r₀ w₀ begun e d);
-      ends-later = λ none. let e = the-end u v h in let d = done-there u v h none e in (e .count, lastOf e .table, walkAs (lastOf e .walk), made-to u v h e, d, e .ends-at d);
+          (e .count, lastOf e .table, walkAs (lastOf e .walk), made-to t r b e, d, ends-from-start (groundOf l) t₀ r₀ w₀ begun e d, held-there t r b e d);
+      ends-later = λ none. let e = the-end u v h in let d = done-there u v h none e in (e .count, lastOf e .table, walkAs (lastOf e .walk), made-to u v h e, d, e .ends-at d, held-there u v h e d);
       stops = let e = the-end u v h in (e .count, lastOf e .table, walkAs (lastOf e .walk), made-to u v h e, e .stops);
       done-at = listing .done-at;
-      whole = λ e w. let s = listing .whole e w in let q = reach-published l (first .0) w₀ (first .1) v₀ w in (λ x. q .0 (s .0 x), λ x. s .1 (q .1 x));
+      whole = all-held h;
+      reached = λ p m. reach-listed h (rowOf wordCount u p) .0 (listing .reached p m);
       once = listing .once;
       accepted = λ p m. kept p m .0;
       first = listing .first;
@@ -170,12 +184,7 @@ module _ (l : List ℤ) (w₀ : List ℕ) (v₀ : Words wordCount w₀) where
             (λ w w′ z _ (a, x, q) m e. (flip-accepted l w w′ z (x .0) e, flip-words l w w′ z (x .0) e, flip-keeps-area l w w′ z x e ∙ q)) (first .1, v₀, refl)
 
   pub walk-whole : (u : List ℕ) (w : WalkRecord) → Walked (groundOf l) w₀ u w → w .step ≡ w .rows * length (circuitsOf l) → (w′ : List ℕ) → Stands wordCount u (w .rows) w′ ↔ BareReach l w₀ w′
-  walk-whole u w h e w′ =
-      let (c, a) = first-row h in
-      let s = walk-listing (patch-sound l) w₀ (v₀ .0) h .whole e w′ in
-      let q = reach-published l c w₀ a v₀ w′ in
-      let b = reach-bare l c w₀ a v₀ w′ in
-      (λ x. b .0 (q .0 (s .0 x)), λ x. s .1 (q .1 (b .1 x)))
+  walk-whole u w h e w′ = let (c, a) = first-row h in let s = all-held h e w′ in let b = reach-bare l c w₀ a v₀ w′ in (λ x. b .0 (s .0 x), λ x. s .1 (b .1 x))
 
 -- ---- the demand
 

@@ -2,16 +2,18 @@
 --
 --   Later l t r u v          the table u and the record v are what steps and runs on the patch l alone have made of the table t and the record r,
 --                            refused ones and done ones among them; in between the rows in use may have moved to any table that has room for them
---   StepsMade l t r k u v    k steps from t and r are made, and leave u and v
+--   StepsMade l t r k u v    a run of k from t and r answers made, so k steps are made (proofs/Promises, `run-made`), and leaves u and v
 --   StepDone l u v, StepRefused l u v    a step over u and v answers done, is refused
 --   NoStepRefused l t r      no step of the walk from t and r is refused: however many are made, the next one is not
+--   HoldsAll l w₀ u v        the rows in use are exactly the surfaces that are reached from w₀ by flips
 --   Demand-3 l w₀ t r u v    what the demand says of a start from the surface w₀ that left t and r, and of a later u and v:
 --     patch, surface         the start was accepted of an accepted patch and an accepted surface alone
---     ends                   if no step is refused, the walk ends after exactly rows × C steps
+--     ends                   if no step is refused, the walk ends after exactly rows × C steps, and then the rows are exactly the surfaces that are reached from w₀ by flips
 --     ends-later             so it does from u and v on, at step rows × C
 --     stops                  in any case so many steps from u and v are made, and one more answers done or is refused
 --     done-at                a step answers done exactly at step = rows × C
 --     whole                  then the rows are exactly the surfaces that are reached from w₀ by flips
+--     reached                each row is one of them, at any time
 --     once                   no two rows are the same
 --     accepted               each row is a surface: a triangulation of the patch, in the published sense
 --     first                  the first row is w₀
@@ -64,18 +66,22 @@ NoStepRefused l t r = (k : ℕ) (u : List ℕ) (v : Walk) → StepsMade l t r k 
 
 -- ---- the conclusions
 
+abbrev pub HoldsAll : List ℤ → List ℕ → List ℕ → Walk → Type 0
+HoldsAll l w₀ u v = (w : List ℕ) → Stands wordCount u (v .rows) w ↔ Reachable l w₀ w
+
 pub record Demand-3 (l : List ℤ) (w₀ t : List ℕ) (r : Walk) (u : List ℕ) (v : Walk) : Type 0 where
   -- "an accepted patch, an accepted first surface"
   pub patch : Clear (shotLines l)
   pub surface : Accepted l w₀
-  -- "If no step is refused, the walk ends after exactly the number of surfaces found times the number of circuits."
-  -- u′ and v′ are later than t and r (`by-run`), so that what follows is said of them too
-  pub ends : NoStepRefused l t r → (k : ℕ) × (u′ : List ℕ) × (v′ : Walk) × StepsMade l t r k u′ v′ × StepDone l u′ v′ × (k ≡ v′ .rows * length (circuitsOf l))
-  pub ends-later : NoStepRefused l u v → (k : ℕ) × (u′ : List ℕ) × (v′ : Walk) × StepsMade l u v k u′ v′ × StepDone l u′ v′ × (v .step + k ≡ v′ .rows * length (circuitsOf l))
+  -- "If no step is refused, the walk ends after exactly the number of surfaces found times the number of circuits. It then holds every surface reachable from the first by flips"
+  -- u′ and v′ are later than t and r (`by-run`), so that the rest is said of them too
+  pub ends : NoStepRefused l t r → (k : ℕ) × (u′ : List ℕ) × (v′ : Walk) × StepsMade l t r k u′ v′ × StepDone l u′ v′ × (k ≡ v′ .rows * length (circuitsOf l)) × HoldsAll l w₀ u′ v′
+  pub ends-later : NoStepRefused l u v → (k : ℕ) × (u′ : List ℕ) × (v′ : Walk) × StepsMade l u v k u′ v′ × StepDone l u′ v′ × (v .step + k ≡ v′ .rows * length (circuitsOf l)) × HoldsAll l w₀ u′ v′
   pub stops : (k : ℕ) × (u′ : List ℕ) × (v′ : Walk) × StepsMade l u v k u′ v′ × (StepDone l u′ v′ ⊎ StepRefused l u′ v′)
   pub done-at : StepDone l u v ↔ (v .step ≡ v .rows * length (circuitsOf l))
-  -- "It then holds every surface reachable from the first by flips", "and no other"
-  pub whole : v .step ≡ v .rows * length (circuitsOf l) → (w : List ℕ) → Stands wordCount u (v .rows) w ↔ Reachable l w₀ w
+  -- "every surface reachable from the first by flips", "and no other"
+  pub whole : v .step ≡ v .rows * length (circuitsOf l) → HoldsAll l w₀ u v
+  pub reached : (p : ℕ) → p < v .rows → Reachable l w₀ (rowOf wordCount u p)
   -- "each once"
   pub once : (p q : ℕ) → p < q → q < v .rows → rowOf wordCount u p ≡ rowOf wordCount u q → ⊥
   pub accepted : (p : ℕ) → p < v .rows → Accepted l (rowOf wordCount u p)

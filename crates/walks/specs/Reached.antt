@@ -1,6 +1,6 @@
--- What the published flips lead to, with nothing asked of their results.
+-- What the published flips lead to, with nothing asked of their results but that they are lists of the patch: two words, nothing past the last rank.
 --
---   BareFlip l w w′      w′ is the list of the published flip of w along some published circuit of the patch
+--   BareFlip l w w′      w′ is such a list, of the published flip of w along some published circuit of the patch
 --   BareReach l w₀ w     w is reached from w₀ by such flips
 --
 -- From an accepted list these are the surfaces of demand 3: proofs/Theorem (`reach-bare`, `walk-whole`). Source: document 02, E9.

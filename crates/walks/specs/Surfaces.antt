@@ -1,6 +1,6 @@
 -- The surfaces of a patch that are reached from one by flips, in the paper's words.
 --
---   PublishedFlip l w w′   w′ is an accepted list, and the published flip of w along some published circuit of the patch
+--   PublishedFlip l w w′   w′ is an accepted list of two words, and the published flip of w along some published circuit of the patch
 --   Reachable l w₀ w       w is reached from w₀ by such flips
 --
 -- Theorems: proofs/Theorem. Source: demand 3; document 01, "Flips"; source 001, section 3.4.
