@@ -18,7 +18,7 @@ use lib.ListN.{length}
 use Rattle.algebra.specs.Answer.{Answer, gives, refuses, Rule, chain, Line, First, Clear, Reflects, holds, fails, Decides}
 use Rattle.algebra.specs.Words.{setRow}
 use Rattle.algebra.proofs.AnswerLaws.{given-refused, chain-refuses, chain-gives, first-clear, first-one, first-append, clear-append, decides-append, reflects-eqb}
-use Rattle.reach.specs.Walks.{Ground, WalkRecord, started, Reply, made, done, Landing, leaves, onlyIf, capacityOf, seenIn, impossible, walkRules, counted, grown}
+use Rattle.reach.specs.Walks.{Ground, WalkRecord, started, Reply, made, done, Landing, leaves, onlyIf, capacityOf, seenIn, recordRule, walkRules, counted, grown}
 use Rattle.reach.specs.Walks.{storeOf, afterFlip, tryOf, stepOf, begin, startOf}
 use Rattle.reach.specs.Reach.{Stands}
 use Rattle.reach.specs.Lines.{Lines, Says, first-line, no-line, FlipSays, row-refused, no-flip, flipped, Lined, during, NoRow, startLines}
@@ -101,15 +101,12 @@ module _ {g : Ground} {L : Lines} (lined : Lined g L) (t : List ℕ) (w : WalkRe
 
   -- ---- step
 
-  abbrev recordRule : Rule
-  recordRule = record { number = 15; broken = impossible (capacityOf (g .words) (length t)) w (g .circuits) }
-
   abbrev recordLine : Line
   recordLine = record { number = 15; when = Impossible g t w }
 
   walk-decided : Decides (walkRules g t w) (walkLines g L t w)
   walk-decided =
-      decides-append (g .before) (recordRule ∷ []) (L .before) (recordLine ∷ []) (lined .decided)
+      decides-append (g .before) (recordRule g t w ∷ []) (L .before) (recordLine ∷ []) (lined .decided)
       (refl, impossible-reflects (capacityOf (g .words) (length t)) w (g .circuits), tt)
 
   pub walk-fronted : (x : Landing Reply) → Fronted t w (walkRules g t w) (walkLines g L t w) x

@@ -46,7 +46,7 @@ use Rattle.algebra.proofs.AnswerLaws.{reflects-yes, reflects-no, reflects-true,
 use Rattle.algebra.proofs.LoopLaws.{reflects-any}
 use Rattle.algebra.proofs.SetTests.{reflects-same}
 use Rattle.algebra.proofs.WordLaws.{row-length, row-same, row-other, row-behind, setRow-length}
-use Rattle.reach.specs.Walks.{Ground, WalkRecord, Begun, started, Reply, made, done, Landing, leaves, onlyIf, rowsMost, capacityOf, seenIn, impossible, walkRules, counted, grown}
+use Rattle.reach.specs.Walks.{Ground, WalkRecord, Begun, started, Reply, made, done, Landing, leaves, onlyIf, rowsMost, capacityOf, seenIn, impossible, recordRule, walkRules, counted, grown}
 use Rattle.reach.specs.Walks.{storeOf, afterFlip, tryOf, stepOf, stepsOf, runOf, begin, startOf}
 use Rattle.reach.specs.Reach.{Stands}
 use Rattle.reach.specs.Leaving.{triedOf, MadeStep, no-row, new-row, RowByRow}
@@ -138,44 +138,35 @@ only-either t w P (r ∷ rs) x f h = go (r .broken) (only-either t w P rs x f h)
     go false k = k
 
 module _ (g : Ground) (t : List ℕ) (w : WalkRecord) where
-  abbrev recordRule : Rule
-  recordRule = record { number = 15; broken = impossible (capacityOf (g .words) (length t)) w (g .circuits) }
-
   module _ (x : Landing Reply) where
     pub walk-refused : (refusal (g .before) ≡ 0 → ⊥) → onlyIf t w (chain (walkRules g t w) x) ≡ leaves t w (refuses (refusal (g .before)))
-    walk-refused h = ap (onlyIf t w) (sym (chain-stop (g .before) (recordRule ∷ []) x h))
+    walk-refused h = ap (onlyIf t w) (sym (chain-stop (g .before) (recordRule g t w ∷ []) x h))
 
     pub walk-impossible : Numbered (g .before) → refusal (g .before) ≡ 0 → impossible (capacityOf (g .words) (length t)) w (g .circuits) ≡ true
         → onlyIf t w (chain (walkRules g t w) x) ≡ leaves t w (refuses 15)
-    walk-impossible n z e = ap (onlyIf t w) (sym (chain-broken recordRule [] x e ∙ chain-after (g .before) (recordRule ∷ []) x n z))
+    walk-impossible n z e = ap (onlyIf t w) (sym (chain-broken (recordRule g t w) [] x e ∙ chain-after (g .before) (recordRule g t w ∷ []) x n z))
 
     pub walk-passed : Numbered (g .before) → refusal (g .before) ≡ 0 → impossible (capacityOf (g .words) (length t)) w (g .circuits) ≡ false
         → onlyIf t w (chain (walkRules g t w) x) ≡ x
     unfolding chain
-    walk-passed n z e = ap (onlyIf t w) (sym (chain-kept recordRule [] x e ∙ chain-after (g .before) (recordRule ∷ []) x n z))
+    walk-passed n z e = ap (onlyIf t w) (sym (chain-kept (recordRule g t w) [] x e ∙ chain-after (g .before) (recordRule g t w ∷ []) x n z))
 
-  -- what they say that let a landing pass, by its answer
-  rules-possible : {A : Type 0} (x : Landing A) {v : A} → onlyIf t w (chain (walkRules g t w) x) .answer ≡ gives v → impossible (capacityOf (g .words) (length t)) w (g .circuits) ≡ false
-  rules-possible {A} x {v} = go (chain (walkRules g t w) x) refl
-    where
-      go : (a : Answer (Landing A)) → chain (walkRules g t w) x ≡ a → onlyIf t w a .answer ≡ gives v → impossible (capacityOf (g .words) (length t)) w (g .circuits) ≡ false
-      go (refuses n) q e = given-refused (sym e)
-      go (gives y) q e = append-unbroken (g .before) (recordRule ∷ []) (gives-unbroken (walkRules g t w) x y q .0) .1 .0
-
-  rules-let : {A : Type 0} (x : Landing A) {v : A} → onlyIf t w (chain (walkRules g t w) x) .answer ≡ gives v → onlyIf t w (chain (walkRules g t w) x) ≡ x
+  -- where they let a landing pass, by its answer: the record is possible, and they change nothing
+  rules-let : {A : Type 0} (x : Landing A) {v : A} → onlyIf t w (chain (walkRules g t w) x) .answer ≡ gives v
+      → (impossible (capacityOf (g .words) (length t)) w (g .circuits) ≡ false) × (onlyIf t w (chain (walkRules g t w) x) ≡ x)
   rules-let {A} x {v} = go (chain (walkRules g t w) x) refl
     where
-      go : (a : Answer (Landing A)) → chain (walkRules g t w) x ≡ a → onlyIf t w a .answer ≡ gives v → onlyIf t w a ≡ x
+      go : (a : Answer (Landing A)) → chain (walkRules g t w) x ≡ a → onlyIf t w a .answer ≡ gives v → (impossible (capacityOf (g .words) (length t)) w (g .circuits) ≡ false) × (onlyIf t w a ≡ x)
       go (refuses n) q e = given-refused (sym e)
-      go (gives y) q e = sym (gives-unbroken (walkRules g t w) x y q .1)
+      go (gives y) q e = let (u, is) = gives-unbroken (walkRules g t w) x y q in (append-unbroken (g .before) (recordRule g t w ∷ []) u .1 .0, sym is)
 
   pub run-let : (b : ℕ) {v : Reply} → runOf g t w b .answer ≡ gives v → runOf g t w b ≡ stepsOf g b t w
   unfolding runOf
-  run-let b e = rules-let (stepsOf g b t w) e
+  run-let b e = rules-let (stepsOf g b t w) e .1
 
   pub step-possible : {v : Reply} → stepOf g t w .answer ≡ gives v → impossible (capacityOf (g .words) (length t)) w (g .circuits) ≡ false
   unfolding stepOf
-  step-possible e = rules-possible (tryOf g t w) e
+  step-possible e = rules-let (tryOf g t w) e .0
 
   pub step-passed : Numbered (g .before) → refusal (g .before) ≡ 0 → impossible (capacityOf (g .words) (length t)) w (g .circuits) ≡ false → stepOf g t w ≡ tryOf g t w
   unfolding stepOf

@@ -14,7 +14,7 @@
 --   capacityOf k n         the whole rows of k words in a table of n words, at most rowsMost
 --   seenIn k t n r         r is one of the first n rows
 --   impossible m w c       15: no walk record for m rows and c circuits: rows 0 or above m, or the step number above rows × c
---   walkRules g t w        what a step and a run test first
+--   walkRules g t w        what a step and a run test first; `recordRule g t w`: 15, behind the rules of the ground
 --   counted w, grown w     the record after a step that wrote nothing, that wrote a row
 --   storeOf k find t w r   a flip's result r: known, where `find` says that it is one of the rows in use; or no room (11), or written at the next row
 --   afterFlip g t w x      what a step makes of the flip's answer x: 13 is no refusal, the step is counted
@@ -80,8 +80,11 @@ seenIn k t n r = any n (λ p. sameList (rowOf k t p) r)
 unfoldable pub impossible : ℕ → WalkRecord → ℕ → Bool
 impossible m w c = eqb (w .rows) 0 || (ltb m (w .rows) || ltb (w .rows * c) (w .step))
 
+abbrev pub recordRule : Ground → List ℕ → WalkRecord → Rule
+recordRule g t w = record { number = 15; broken = impossible (capacityOf (g .words) (length t)) w (g .circuits) }
+
 abbrev pub walkRules : Ground → List ℕ → WalkRecord → List Rule
-walkRules g t w = g .before ++ record { number = 15; broken = impossible (capacityOf (g .words) (length t)) w (g .circuits) } ∷ []
+walkRules g t w = g .before ++ recordRule g t w ∷ []
 
 abbrev pub counted : WalkRecord → WalkRecord
 counted w = record { rows = w .rows; step = w .step + 1 }
