@@ -1,8 +1,8 @@
--- A walk does not depend on the spare rows of its table: over another table with the same rows in use, and room for those to come, it goes the same way.
+-- A walk does not depend on the spare rows of its table, where the flip keeps the number of words: over another table with the same rows in use, and room for those to come, it goes the same way.
 --
 --   SameRows k n t u      the first n rows of t, of k words each, are those of u
 --   Matches k l m         two landings with one answer, one record, and the same rows in use
---   run-spare             a run over two tables with the same rows in use lands in the same; a refusal by 11 apart, where the one may have room and the other none
+--   run-spare             runs over two tables with the same rows in use match; a refusal by 11 apart, where the one may have room and the other none
 --   run-longer            a run that is not made, but done or refused, is the same with more steps asked for
 --
 -- Source: document 01, "The walk": "the same step can be asked again over a longer table with the same rows".
