@@ -23,6 +23,8 @@ static void is(int holds, const char *claim, int line)
 
 /* the square with its centre; C is 3: 0,2 against 4; 1,3 against 4; 0,2 against 1,3 */
 static const int32_t square[] = {0, 0, 2, 0, 2, 2, 0, 2, 1, 1};
+/* the square with a shot halfway along a side */
+static const int32_t halfway[] = {0, 0, 2, 0, 2, 2, 0, 2, 1, 0};
 enum { N = 10 };
 /* five shots have ten triples: 012 013 014 023 024 034 123 124 134 234 */
 enum { T012 = 1 << 0, T013 = 1 << 1, T023 = 1 << 3, T024 = 1 << 4, T034 = 1 << 5, T123 = 1 << 6, T234 = 1 << 9 };
@@ -70,6 +72,8 @@ static void places(void)
     IS(patch_cocircuit(square, N, 2, 0, signs) == PATCH_FORM && memcmp(signs, row, sizeof signs) == 0);
     IS(patch_border(square, N, &count) == 0 && count == 4);
     IS(patch_border(square, 3, &count) == PATCH_COUNT && count == 4);
+    count = 99;
+    IS(patch_border(halfway, N, &count) == 0 && count == 4);
 }
 
 static void circuits(void)

@@ -96,7 +96,8 @@ uint8_t patch_double_area(const int32_t *shots, size_t length, size_t a, size_t 
 /* signs[k]: the orientation of i, j, k for each shot k; 0 past the shots. Refused: 1 2 3 4, 7 (not a pair i < j of shots). */
 uint8_t patch_cocircuit(const int32_t *shots, size_t length, size_t i, size_t j, int8_t signs[PATCH_SHOTS_MOST]);
 
-/* *count: the border pairs, pairs of shots with no two others on opposite sides of their line. Refused: 1 2 3 4. */
+/* *count: the sides of the patch. A side is a pair of shots with no two others on opposite sides of their line, and every other shot on that
+   line between the two: shots along a straight fence make one side. Refused: 1 2 3 4. */
 uint8_t patch_border(const int32_t *shots, size_t length, size_t *count);
 
 /* ---- circuits: three shots on a line, or four of which no three are; split in two sides whose hulls meet */

@@ -23,6 +23,7 @@ GRID23 = [(x, y) for y in range(2) for x in range(3)]
 GRID33 = [(x, y) for y in range(3) for x in range(3)]
 GRID25 = [(x, y) for y in range(2) for x in range(5)]
 OUTLINE = [(0, 0), (4, 0), (0, 4), (2, 0), (6, 0), (2, 2), (0, -3), (8, -4)]
+HALFWAY = [(0, 0), (2, 0), (2, 2), (0, 2), (1, 0)]
 MIDDLE_FIRST = [(1, 0), (0, 0), (2, 0), (0, 1), (2, 3)]
 LATE_START = [(0, 0), (4, 0), (2, 0), (6, 0), (1, 3), (-2, 0)]
 EXTREMES = [(-LIMIT, -LIMIT), (LIMIT, -LIMIT), (LIMIT, LIMIT), (-LIMIT, LIMIT), (0, 0), (1, 0), (LIMIT - 1, LIMIT)]
@@ -125,6 +126,15 @@ def random_patch(n, kind):
             return patch
 
 
+def fenced_patch(n, corners):
+    """A triangle or a quadrilateral whose other shots are mostly posts along its sides, in any order."""
+    ends = [(0, 0), (8, 0), (8, 8), (0, 8)] if rng.random() < 0.3 else [(-8, -4), (4, -8), (12, 4), (-4, 12)]
+    ends = ends[:corners]
+    sides = list(zip(ends, ends[1:] + ends[:1]))
+    posts = {(ax + (bx - ax) * t // 4, ay + (by - ay) * t // 4) for (ax, ay), (bx, by) in sides for t in [1, 2, 3]}
+    return rng.sample(ends + rng.sample([*sorted(posts), (2, 1), (3, 1)], n - len(ends)), n)
+
+
 # Groups of cases
 
 
@@ -214,6 +224,24 @@ def extreme_cases():
     case("placing", EXTREMES)
     case("write_patch", EXTREMES, [0] * 60)
     case("read_patch", patch_record(EXTREMES))
+
+
+def side_cases():
+    remark("sides: a shot halfway, lines of many shots, in any order of their numbers")
+    for patch in [HALFWAY, TRIANGLE, SQUARE, PENTAGON, GRID23, GRID25, GRID33, OUTLINE, MIDDLE_FIRST]:
+        case("border", patch)
+        case("border", rng.sample(patch, len(patch)))
+    remark("sides: shots along the sides of a triangle or a quadrilateral, with some inside, upright, level and slanted")
+    for n, corners in itertools.product(range(4, 11), [3, 4]):
+        case("border", fenced_patch(n, corners))
+    remark("sides: all shots but one on a line")
+    for n in range(3, 11):
+        x, y = rng.randint(-9, 9), rng.randint(1, 9)
+        line = [(x * place, y * place) for place in rng.sample(range(-20, 21), n - 1)]
+        case("border", rng.sample([*line, (x + 1, y)], n))
+    remark("sides: random patches with many shots on lines")
+    for n, kind in itertools.product(range(4, 11), ["grid", "small"]):
+        case("border", random_patch(n, kind))
 
 
 def circuit_cases():
@@ -572,7 +600,7 @@ def main():
         document_cases, run_cases, shot_cases, extreme_cases, circuit_cases, list_cases, changed_surface_cases,
         folded_cases, placing_cases, flip_cases, random_patch_cases, refused_shot_cases, refused_list_cases,
         start_cases, walk_record_cases, table_cases, random_table_cases, run_length_cases, capacity_cases,
-        patch_record_cases, surface_record_cases, buffer_cases, result_cases,
+        patch_record_cases, surface_record_cases, buffer_cases, result_cases, side_cases,
     ]:
         group()
 

@@ -85,7 +85,7 @@ fn plain_answer(call: &str, arguments: &mut Arguments) -> Result<String, Refusal
     let patch = arguments.patch();
     match call {
         "accept" => patch.map(|_| "accepted".into()),
-        "border" => Ok(format!("count {}", patch?.border().len())),
+        "border" => Ok(format!("count {}", patch?.sides())),
         "circuits" => Ok(format!("count {}", patch?.circuits.len())),
         "orientation" | "double_area" => {
             let numbers = [arguments.number(), arguments.number(), arguments.number()];

@@ -28,7 +28,7 @@ fn patchwalk(record: &[u8]) -> Result<String, Refusal> {
     let patch = Patch::accept(&records::read_patch(record)?)?;
     let walk = walk::whole_walk(&patch, TABLE_ROWS);
     let area: i128 = walk.rows[0].iter().map(|&t| patch.turn(t).abs()).sum();
-    let (circuits, border) = (patch.circuits.len(), patch.border().len());
+    let (circuits, border) = (patch.circuits.len(), patch.sides());
     let mut text = format!("patch {} circuits {circuits} border {border} area2 {area}\n", patch.len());
     text.extend(walk.rows.iter().enumerate().map(|(row, surface)| row_line(row, surface)));
     let end = if walk.full { "full" } else { "done" };

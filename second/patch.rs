@@ -124,8 +124,33 @@ impl Patch {
         }
     }
 
+    /// The border pairs, where an edge may be open.
     pub fn border(&self) -> &BTreeSet<[usize; 2]> {
         &self.border
+    }
+
+    /// The number of sides (request E1): the edges of the strict convex hull, south from left to right and north back.
+    pub fn sides(&self) -> usize {
+        let mut along: Vec<_> = (0..self.len()).collect();
+        along.sort_by_key(|&shot| self.shots[shot]);
+        let south = self.left_turns(&along);
+        along.reverse();
+        south.len() - 1 + self.left_turns(&along).len() - 1
+    }
+
+    /// The shots in the order given, without each that a strict left turn leaves out.
+    fn left_turns(&self, along: &[usize]) -> Vec<usize> {
+        let mut chain = Vec::new();
+        for &shot in along {
+            while let [.., a, b] = chain[..] {
+                if self.turn([a, b, shot]) > 0 {
+                    break;
+                }
+                chain.pop();
+            }
+            chain.push(shot);
+        }
+        chain
     }
 
     pub fn triples(&self) -> &[Triple] {

@@ -1,4 +1,5 @@
--- The proved cases of document 01, "The square with its centre", as one table: a patch, what is asked of it, and the answer that document 01 states; of its run cases those of the walk.
+-- The proved cases of document 01, "The square with its centre", and of document 02's requests, as one table: a patch, what is asked of it, and the answer that is stated; of document 01's
+-- run cases those of the walk.
 --
 --   Question      a call and its numbers; or the double areas of a list, summed
 --   Told         an answer: a value or the number that refuses; or a sum
@@ -8,6 +9,7 @@
 --   walkFrom l w t b   a start from the list w over the table t, and then a run of b steps
 --   square        shots 0 (0,0), 1 (2,0), 2 (2,2), 3 (0,2), 4 (1,1)
 --   triangle      shots 0 (0,0), 1 (1,0), 2 (0,1)
+--   halfway       shots 0 (0,0), 1 (2,0), 2 (2,2), 3 (0,2), 4 (1,0): E1
 --
 -- Theorem: proofs/Cases (`cases-right`).
 use mathlib.Core.List.{List, [], _∷_, _++_}
@@ -75,6 +77,9 @@ square = pos 0 ∷ pos 0 ∷ pos 2 ∷ pos 0 ∷ pos 2 ∷ pos 2 ∷ pos 0 ∷ p
 
 abbrev pub triangle : List ℤ
 triangle = pos 0 ∷ pos 0 ∷ pos 1 ∷ pos 0 ∷ pos 0 ∷ pos 1 ∷ []
+
+abbrev pub halfway : List ℤ
+halfway = pos 0 ∷ pos 0 ∷ pos 2 ∷ pos 0 ∷ pos 2 ∷ pos 2 ∷ pos 0 ∷ pos 2 ∷ pos 1 ∷ pos 0 ∷ []
 
 -- ---- document 01's words
 
@@ -145,6 +150,7 @@ table =
     ∷ of-square (orientation 0 2 4) flat
     ∷ of-square (cocircuit 0 2) (five (pos 0) (negsuc 0) (pos 0) (pos 1) (pos 0))
     ∷ of-square border (count (gives 4))
+    ∷ record { patch = halfway; asked = border; stated = count (gives 4) }
     ∷ of-square circuits (count (gives 3))
     ∷ of-square (circuit 0) (_against_ (0 ∷ 2 ∷ []) (4 ∷ []))
     ∷ of-square (circuit 1) (_against_ (1 ∷ 3 ∷ []) (4 ∷ []))

@@ -20,6 +20,7 @@ pub mod Edges
 pub mod Planar
 pub mod Sides
 pub mod Borders
+pub mod SideLaws
 pub mod Apexes
 pub mod FlipStars
 pub mod FlipEdges

@@ -6,7 +6,7 @@
 //   patch_orientation      the sign of three shots                           1-4, 7
 //   patch_double_area      the size of their double area                     1-4, 7
 //   patch_cocircuit        the orientation of a pair with every shot         1-4, 7
-//   patch_border           the number of border pairs                        1-4
+//   patch_border           the number of sides                               1-4
 //   patch_circuits         C, the number of circuits                         1-4
 //   patch_circuit          the two sides of circuit z                        1-4, 12
 //   patch_test             is the list a triangulation?                      1-4, 7 10 8 9

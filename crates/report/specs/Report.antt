@@ -30,7 +30,7 @@ use Rattle.algebra.specs.Loops.{tally, over}
 use Rattle.algebra.specs.Words.{rowOf}
 use Rattle.reach.specs.Walks.{WalkRecord, Begun, Reply, made, done, Landing, runOf, startOf}
 use Rattle.shots.specs.Patch.{countOf}
-use Rattle.shots.specs.Calls.{bordersOf}
+use Rattle.shots.specs.Calls.{sidesOf}
 use Rattle.circuits.specs.Numbering.{circuitsOf}
 use Rattle.triples.specs.Sizes.{wordCount}
 use Rattle.surfaces.specs.Areas.{areaSumOf}
@@ -66,7 +66,7 @@ endedIn t w = record { walk = readWalk w; table = t }
 
 -- the first line of a patch whose first row is the list w
 unfoldable pub firstLine : List ℤ → List ℕ → List ℕ
-firstLine l w = patchLine (countOf l) (length (circuitsOf l)) (tally (countOf l) (bordersOf l)) (areaSumOf l w)
+firstLine l w = patchLine (countOf l) (length (circuitsOf l)) (tally (countOf l) (sidesOf l)) (areaSumOf l w)
 
 -- the line of row p of the table t
 unfoldable pub lineAt : ℕ → List ℕ → ℕ → List ℕ

@@ -2,7 +2,7 @@
 --
 --   near-gap      two coordinates differ by at most twice `farthest`
 --   area-small    a double area is at most eight times its square
---   borders-few   shot j makes at most j border pairs with smaller shots
+--   sides-few   shot j makes at most j sides with smaller shots
 use mathlib.Core.Bool.{Bool, true, false, cond}
 use mathlib.Core.List.{List}
 use Prim.Native.Nat.{ℕ, _+_, _*_, _≤_}
@@ -13,9 +13,9 @@ use Rattle.algebra.proofs.LoopLaws.{tally-below}
 use Rattle.algebra.proofs.SizeLaws.{natAbs-sub, mul-size}
 use Rattle.shots.specs.Sizes.{farthest}
 use Rattle.shots.specs.Coordinates.{xOf, yOf, areaOf}
-use Rattle.shots.specs.Patch.{borderOf}
+use Rattle.shots.specs.Patch.{sideOf}
 use Rattle.shots.specs.Tests.{Near}
-use Rattle.shots.specs.Calls.{bordersOf}
+use Rattle.shots.specs.Calls.{sidesOf}
 
 module _ (l : List ℤ) (h : Near l) where
   pub near-gap : (i j : ℕ) → natAbs (getD l i (pos 0) -ℤ getD l j (pos 0)) ≤ 2 * farthest
@@ -33,9 +33,9 @@ module _ (l : List ℤ) (h : Near l) where
       let right = mul-size (yOf l b -ℤ yOf l a) (xOf l c -ℤ xOf l a) (2 * farthest) (2 * farthest) r s in
       omega (arith, natAbs-sub ((xOf l b -ℤ xOf l a) *ℤ (yOf l c -ℤ yOf l a)) ((yOf l b -ℤ yOf l a) *ℤ (xOf l c -ℤ xOf l a)))
 
-pub borders-few : (l : List ℤ) (j : ℕ) → bordersOf l j ≤ j
-unfolding bordersOf
-borders-few l j = omega (arith, tally-below (λ i. cond (borderOf l i j) 1 0) j 1 (λ i h. one (borderOf l i j)))
+pub sides-few : (l : List ℤ) (j : ℕ) → sidesOf l j ≤ j
+unfolding sidesOf
+sides-few l j = omega (arith, tally-below (λ i. cond (sideOf l i j) 1 0) j 1 (λ i h. one (sideOf l i j)))
   where
     one : (b : Bool) → cond b 1 0 ≤ 1
     one true = omega arith

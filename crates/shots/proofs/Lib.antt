@@ -4,4 +4,5 @@ pub mod Patch
 pub mod Chains
 pub mod Orientations
 pub mod Borders
+pub mod Sides
 pub mod Promises

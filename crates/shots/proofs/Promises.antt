@@ -23,7 +23,7 @@ use Rattle.shots.specs.Coordinates.{areaOf}
 use Rattle.shots.specs.Patch.{countOf, orientOf}
 use Rattle.shots.specs.Tests.{shotRules, refusalOf}
 use Rattle.shots.specs.Lines.{NotShot, NotPair, shotLines, orientationLines, cocircuitLines}
-use Rattle.shots.specs.Calls.{readAccepted, readOriented, readMeasured, readCounted, Cocircuit, readSigns, acceptOf, shotsRule, orientationOf, doubleAreaOf, pairRule, signAt, signsWith, cocircuitOf, bordersOf, borderCallOf}
+use Rattle.shots.specs.Calls.{readAccepted, readOriented, readMeasured, readCounted, Cocircuit, readSigns, acceptOf, shotsRule, orientationOf, doubleAreaOf, pairRule, signAt, signsWith, cocircuitOf, sidesOf, borderCallOf}
 use Rattle.shots.specs.declared.Accepted.{Accepted}
 use Rattle.shots.specs.declared.Accepted.the-variants as A
 use Rattle.shots.specs.declared.Oriented.{Oriented}
@@ -106,7 +106,7 @@ module _ (l : List ℤ) where
   unfolding borderCallOf
   border-refuses n = chain-refuses (shotRules l) (shotLines l) _ n shots-decided
 
-  pub border-gives : (v : ℕ) → (borderCallOf l ≡ gives v) ↔ (Clear (shotLines l) × (tally (countOf l) (bordersOf l) ≡ v))
+  pub border-gives : (v : ℕ) → (borderCallOf l ≡ gives v) ↔ (Clear (shotLines l) × (tally (countOf l) (sidesOf l) ≡ v))
   unfolding borderCallOf
   border-gives v = chain-gives (shotRules l) (shotLines l) _ v shots-decided
 

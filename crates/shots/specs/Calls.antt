@@ -7,12 +7,12 @@
 --   doubleAreaOf l a b c    the size of the signed double area; or 1-4, 7
 --   Cocircuit            the answer of `cocircuit`, and the places of the array beside it
 --   cocircuitOf l i j    the orientation of (i, j, k) at each shot k and 0 past them; or 1-4, 7, and 0 everywhere
---   borderCallOf l       the number of border pairs; or 1-4
+--   borderCallOf l       the number of sides; or 1-4
 --   shotsRule l a b c, pairRule l i j    7: one of three numbers is not a shot; not a pair i < j of shots
 --   signAt l i j k, signsWith a s        the sign of place k in the cocircuit of i, j; the array that goes with an answer
---   bordersOf l j        how many i < j make a border pair with j
+--   sidesOf l j          how many i < j make a side with j
 --
--- Source: document 01, "Shots and orientation".
+-- Source: document 01, "Shots and orientation"; document 02, E1.
 use mathlib.Core.Bool.{cond, _||_}
 use mathlib.Core.List.{List, [], _∷_, _++_}
 use Prim.Native.Nat.{ℕ}
@@ -24,7 +24,7 @@ use Rattle.algebra.specs.Loops.{tabulate, tally}
 use Rattle.algebra.specs.Sign.{value}
 use Rattle.shots.specs.Sizes.{shotsMost}
 use Rattle.shots.specs.Coordinates.{areaOf}
-use Rattle.shots.specs.Patch.{countOf, orientOf, borderOf}
+use Rattle.shots.specs.Patch.{countOf, orientOf, sideOf}
 use Rattle.shots.specs.Tests.{shotRules}
 use Rattle.shots.specs.declared.Accepted.{Accepted}
 use Rattle.shots.specs.declared.Accepted.the-variants as A
@@ -97,9 +97,9 @@ cocircuitOf l i j =
       signs = signsWith (chain (shotRules l ++ pairRule l i j ∷ []) tt) (tabulate shotsMost (signAt l i j));
     }
 
--- how many i < j make a border pair with j
-unfoldable pub bordersOf : List ℤ → ℕ → ℕ
-bordersOf l j = tally j (λ i. cond (borderOf l i j) 1 0)
+-- how many i < j make a side with j
+unfoldable pub sidesOf : List ℤ → ℕ → ℕ
+sidesOf l j = tally j (λ i. cond (sideOf l i j) 1 0)
 
 unfoldable pub borderCallOf : List ℤ → Answer ℕ
-borderCallOf l = chain (shotRules l) (tally (countOf l) (bordersOf l))
+borderCallOf l = chain (shotRules l) (tally (countOf l) (sidesOf l))

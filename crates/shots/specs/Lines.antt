@@ -8,9 +8,9 @@
 --   NotPair l i j        a pair with a number that is not a shot, or not in order
 --   placeLines           the lines 2, 3, 4
 --   shotLines, orientationLines, cocircuitLines    the tables of the calls
---   BorderPairs l ps     ps holds each border pair i < j of shots, in the published sense, once, and nothing else
+--   SidePairs l ps       ps holds each side, a pair i < j of shots, once, and nothing else
 --
--- The theorems that each call gives each number exactly when its line is the first that holds: proofs/Promises; that `border` counts the border pairs: proofs/Borders.
+-- The theorems that each call gives each number exactly when its line is the first that holds: proofs/Promises; that `border` counts the sides: proofs/Sides.
 use mathlib.Core.Path.{_≡_}
 use mathlib.Core.Logic.{_⊎_, _↔_}
 use mathlib.Core.List.{List, [], _∷_, _++_, List·Memᴰ}
@@ -19,9 +19,9 @@ use lib.ListN.{getD, length}
 use lib.IntN.{ℤ, pos, natAbs}
 use Rattle.algebra.specs.Answer.{Line}
 use Rattle.matroid.specs.Points.{Collinear}
-use Rattle.matroid.specs.Triangulations.{Border}
+use Rattle.matroid.specs.Borders.{Side}
 use Rattle.shots.specs.Sizes.{shotsLeast, shotsMost, farthest}
-use Rattle.shots.specs.Coordinates.{pointOf, patchOf}
+use Rattle.shots.specs.Coordinates.{pointOf}
 use Rattle.shots.specs.Patch.{countOf}
 
 abbrev pub BadCount : List ℤ → Type 0
@@ -58,6 +58,6 @@ orientationLines l a b c = shotLines l ++ record { number = 7; when = NotShot l 
 abbrev pub cocircuitLines : List ℤ → ℕ → ℕ → List Line
 cocircuitLines l i j = shotLines l ++ record { number = 7; when = NotPair l i j } ∷ []
 
-pub record BorderPairs (l : List ℤ) (ps : List (List ℕ)) : Type 0 where
-  pub each : (e : List ℕ) → List·Memᴰ e ps ↔ ((i : ℕ) × (j : ℕ) × (e ≡ i ∷ j ∷ []) × (i < j) × (j < countOf l) × Border (countOf l) (patchOf l) e)
+pub record SidePairs (l : List ℤ) (ps : List (List ℕ)) : Type 0 where
+  pub each : (e : List ℕ) → List·Memᴰ e ps ↔ ((i : ℕ) × (j : ℕ) × (e ≡ i ∷ j ∷ []) × (i < j) × (j < countOf l) × Side (countOf l) (pointOf l) i j)
   pub once : (p q : ℕ) → p < q → q < length ps → getD ps p [] ≡ getD ps q [] → ⊥

@@ -1,20 +1,24 @@
 -- What the tests, circuits and surfaces above this room are computed from: how many shots a patch has, the orientation of three, which of three on a line is
--- between the others, and which pairs are border pairs. Beside it, sums of areas read `areaOf`, the published statements `patchOf` (specs/Coordinates), and records the run itself.
+-- between the others, and which pairs are border pairs and sides. Beside it, sums of areas read `areaOf`, the published statements `patchOf` (specs/Coordinates), and records the run itself.
 --
 --   countOf l          the number of shots of the run l
 --   orientOf l a b c   the orientation of three shots: the sign of their double area
 --   betweenOf l m a b  of three shots on a line, m lies strictly between a and b
 --   someLeft, someRight    some shot has the sign plus, minus in the cocircuit of a pair
 --   borderOf l i j     the cocircuit of the pair has no two opposite signs
+--   outsideAt l i j k  shot k is another shot on the line of i and j, and not between the two
+--   someOutside l i j  some shot is
+--   sideOf l i j       a side: a border pair where every other shot on their line lies between the two
 --
--- Theorems: proofs/Orientations, proofs/Borders. Source: document 01, "Shots and orientation"; source 001, section 3.1.
+-- Theorems: proofs/Orientations, proofs/Borders, proofs/Sides. Source: document 01, "Shots and orientation"; source 001, section 3.1; document 02, E1.
 use mathlib.Core.Bool.{Bool, not, _&&_}
 use mathlib.Core.List.{List}
 use Prim.Native.Nat.{ℕ, _/_}
+use lib.Dec.{eqb}
 use lib.ListN.{length}
 use lib.IntN.{ℤ}
 use Rattle.algebra.specs.Loops.{any}
-use Rattle.algebra.specs.Sign.{Sign, signOf, isMinus, isPlus}
+use Rattle.algebra.specs.Sign.{Sign, signOf, isMinus, isNought, isPlus}
 use Rattle.matroid.specs.Points.{dot}
 use Rattle.shots.specs.Coordinates.{pointOf, areaOf}
 
@@ -35,3 +39,12 @@ someRight l i j = any (countOf l) (λ k. isMinus (orientOf l i j k))
 
 unfoldable pub borderOf : List ℤ → ℕ → ℕ → Bool
 borderOf l i j = not (someLeft l i j && someRight l i j)
+
+unfoldable pub outsideAt : List ℤ → ℕ → ℕ → ℕ → Bool
+outsideAt l i j k = not (eqb k i) && (not (eqb k j) && (isNought (orientOf l i j k) && not (betweenOf l k i j)))
+
+unfoldable pub someOutside : List ℤ → ℕ → ℕ → Bool
+someOutside l i j = any (countOf l) (outsideAt l i j)
+
+unfoldable pub sideOf : List ℤ → ℕ → ℕ → Bool
+sideOf l i j = borderOf l i j && not (someOutside l i j)

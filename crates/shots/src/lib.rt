@@ -4,7 +4,7 @@
 //   orientation    the sign of three shots, -1, 0 or 1                     1-4, 7
 //   double_area    the size of their double area                           1-4, 7
 //   cocircuit      the orientation of a pair with every shot               1-4, 7
-//   border         the number of border pairs                              1-4
+//   border         the number of sides                                     1-4
 //
 // Every call takes every input; specs/Calls.antt says what it answers, specs/Lines.antt when it refuses.
 ghost use mathlib.Core.Path.{_≡_};
@@ -116,5 +116,5 @@ pub fn border(shots: &[i32]) -> Counted
     if refusal != 0 {
         return Counted::Refused(refusal);
     }
-    Counted::Count(pairs::border_count(shots))
+    Counted::Count(pairs::side_count(shots))
 }

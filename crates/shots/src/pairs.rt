@@ -1,12 +1,11 @@
-// Pairs of shots that are known to be there and near: their cocircuits, and which of them are border pairs.
+// Pairs of shots that are known to be there and near: their cocircuits, and which of them are border pairs and sides.
 ghost use mathlib.Core.Path.{_≡_};
-ghost use mathlib.Core.Bool.{cond};
 ghost use Prim.Native.Nat.{_≤_, _<_};
 ghost use Rattle.algebra.specs.Loops.{tabulate, tally};
 ghost use Rattle.shots.specs.Sizes.{shotsMost};
-ghost use Rattle.shots.specs.Patch.{countOf, someLeft, borderOf};
+ghost use Rattle.shots.specs.Patch.{countOf, someLeft, borderOf, outsideAt, someOutside, sideOf};
 ghost use Rattle.shots.specs.Tests.{Near};
-ghost use Rattle.shots.specs.Calls.{signAt, bordersOf};
+ghost use Rattle.shots.specs.Calls.{signAt, sidesOf};
 use super::SHOTS_MOST;
 use super::plane;
 
@@ -61,15 +60,57 @@ pub fn is_border(shots: &[i32], i: usize, j: usize) -> bool
     true
 }
 
-// How many border pairs have j as their larger shot.
-fn borders_of(shots: &[i32], j: usize) -> usize
+// Whether shot k is another shot on the line of i and j, and not between the two.
+fn is_outside(shots: &[i32], i: usize, j: usize, k: usize) -> bool
+    requires { ⌜ (i < countOf (now shots)) × (j < countOf (now shots)) × (k < countOf (now shots)) × Near (now shots) ⌝ }
+    ensures { λ r. ⌜ r ≡ outsideAt (now (shots .entry)) i j k ⌝ }
+{
+    if k == i {
+        return false;
+    }
+    if k == j {
+        return false;
+    }
+    if plane::sign(shots, i, j, k) != 0 {
+        return false;
+    }
+    !plane::between(shots, k, i, j)
+}
+
+fn some_outside(shots: &[i32], i: usize, j: usize) -> bool
+    requires { ⌜ (i < countOf (now shots)) × (j < countOf (now shots)) × Near (now shots) ⌝ }
+    ensures { λ r. ⌜ r ≡ someOutside (now (shots .entry)) i j ⌝ }
+{
+    let n = shots.len() / 2;
+    let mut k = 0;
+    while k < n {
+        if is_outside(shots, i, j, k) {
+            return true;
+        }
+        k += 1;
+    }
+    false
+}
+
+pub fn is_side(shots: &[i32], i: usize, j: usize) -> bool
+    requires { ⌜ (i < countOf (now shots)) × (j < countOf (now shots)) × Near (now shots) ⌝ }
+    ensures { λ r. ⌜ r ≡ sideOf (now (shots .entry)) i j ⌝ }
+{
+    if is_border(shots, i, j) {
+        return !some_outside(shots, i, j);
+    }
+    false
+}
+
+// How many sides have j as their larger end.
+fn sides_of(shots: &[i32], j: usize) -> usize
     requires { ⌜ (j < countOf (now shots)) × Near (now shots) ⌝ }
-    ensures { λ r. ⌜ r ≡ bordersOf (now (shots .entry)) j ⌝ }
+    ensures { λ r. ⌜ r ≡ sidesOf (now (shots .entry)) j ⌝ }
 {
     let mut count = 0;
     let mut i = 0;
     while i < j {
-        if is_border(shots, i, j) {
+        if is_side(shots, i, j) {
             count += 1;
         }
         i += 1;
@@ -77,15 +118,15 @@ fn borders_of(shots: &[i32], j: usize) -> usize
     count
 }
 
-pub fn border_count(shots: &[i32]) -> usize
+pub fn side_count(shots: &[i32]) -> usize
     requires { ⌜ (countOf (now shots) ≤ shotsMost) × Near (now shots) ⌝ }
-    ensures { λ r. ⌜ r ≡ tally (countOf (now (shots .entry))) (bordersOf (now (shots .entry))) ⌝ }
+    ensures { λ r. ⌜ r ≡ tally (countOf (now (shots .entry))) (sidesOf (now (shots .entry))) ⌝ }
 {
     let n = shots.len() / 2;
     let mut count = 0;
     let mut j = 0;
     while j < n {
-        count += borders_of(shots, j);
+        count += sides_of(shots, j);
         j += 1;
     }
     count

@@ -6,7 +6,7 @@
 --   tripleText s         a blank, and the shots of a triple as digits; `shotsText s`: the digits
 --   triplesText n w      so for each triple of the list w, in the order of their ranks; `rankText n w r`: for rank r
 --   endLine              the end of a line
---   patchLine n c b a    the first line: shots, circuits, border pairs, double area
+--   patchLine n c b a    the first line: shots, circuits, sides, double area
 --   rowLine n p w        a row's line: row, triples, shots used, triples
 --   endWord d            `done` where the walk is complete, `full` where the table is, and a blank
 --   lastLine d rows k    the last line: how the walk ended, rows and steps

@@ -17,7 +17,7 @@ use triples::holding;
 use triples::ranks;
 use triples::sets;
 
-// The first line: shots, circuits, border pairs, double area.
+// The first line: shots, circuits, sides, double area.
 pub fn patch(
     out: &mut [u8],
     at: usize,

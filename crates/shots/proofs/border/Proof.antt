@@ -13,8 +13,8 @@ returns : tie.Need-returns
 unfolding borderCallOf
 returns c = shots-refused (c .before .before .args .shots .now) [] _ (c .before .refusal .ensures) (c .if1 .taken)
 
-border-count-requires : tie.Need-border-count-requires
-border-count-requires c κs =
+side-count-requires : tie.Need-side-count-requires
+side-count-requires c κs =
     let l = c .before .before .args .shots .now in
     let e = sym (c .before .refusal .ensures) ∙ c .if1 .left in
     (patch-few l e .1, patch-near l e)
@@ -23,7 +23,7 @@ returns-2 : tie.Need-returns-2
 unfolding borderCallOf chain
 returns-2 c =
     let d = c .before in
-    ap gives (c .border-count .ensures) ∙ shots-passed (d .before .before .args .shots .now) [] _ (d .before .refusal .ensures) (d .if1 .left)
+    ap gives (c .side-count .ensures) ∙ shots-passed (d .before .before .args .shots .now) [] _ (d .before .refusal .ensures) (d .if1 .left)
 
 pub border-spec : {M : Type 1} → statement M
-border-spec = tie.close (tie.spec (λ c κs. search needs) returns border-count-requires returns-2)
+border-spec = tie.close (tie.spec (λ c κs. search needs) returns side-count-requires returns-2)

@@ -8,7 +8,7 @@ use lib.IntN.{ℤ}
 use borrow.Author.Needs.{needs}
 use Rattle.algebra.specs.Loops.{tally}
 use Rattle.shots.specs.Patch.{countOf}
-use Rattle.shots.specs.Calls.{bordersOf}
+use Rattle.shots.specs.Calls.{sidesOf}
 use Rattle.shots.proofs.Patch.{patch-few, patch-near}
 use Rattle.circuits.specs.Numbering.{circuitsOf}
 use Rattle.circuits.proofs.FilledLaws.{poured-count}
@@ -26,8 +26,8 @@ all-requires c κs =
     let l = s .args .shots .now in
     (patch-near l (s .pre .0), patch-few l (s .pre .0) .1, omega arith, omega arith)
 
-border-count-requires : tie.Need-border-count-requires
-border-count-requires c κs =
+side-count-requires : tie.Need-side-count-requires
+side-count-requires c κs =
     let s = c .before .before .before .before .before .before in
     let l = s .args .shots .now in
     (patch-few l (s .pre .0) .1, patch-near l (s .pre .0))
@@ -39,7 +39,7 @@ sum-requires c κs =
     (patch-near l (s .pre .0), patch-few l (s .pre .0) .1)
 
 -- each number of the line is the one that is counted
-line-is : (l : List ℤ) (w : List ℕ) {c b a : ℕ} → c ≡ length (circuitsOf l) → b ≡ tally (countOf l) (bordersOf l) → a ≡ areaSumOf l w → patchLine (countOf l) c b a ≡ firstLine l w
+line-is : (l : List ℤ) (w : List ℕ) {c b a : ℕ} → c ≡ length (circuitsOf l) → b ≡ tally (countOf l) (sidesOf l) → a ≡ areaSumOf l w → patchLine (countOf l) c b a ≡ firstLine l w
 unfolding firstLine
 line-is l w p q e = λ k. patchLine (countOf l) (p k) (q k) (e k)
 
@@ -50,7 +50,7 @@ returns c =
     let s = a .before .before .before .before .before .before .before in
     let e = d .patch .ensures in (
       put-same (s .args .out .now) (s .args .at) (d .patch .last .0)
-          (line-is (s .args .shots .now) (wordsOf (s .args .list)) (poured-count _ _ _ _ _ _ (a .before .before .before .all .ensures)) (a .border-count .ensures) (d .before .before .sum .ensures)) (e .0),
+          (line-is (s .args .shots .now) (wordsOf (s .args .list)) (poured-count _ _ _ _ _ _ (a .before .before .before .all .ensures)) (a .side-count .ensures) (d .before .before .sum .ensures)) (e .0),
       omega (arith, e .1),
     )
 
@@ -61,7 +61,7 @@ first-spec =
     (λ c. search needs)
     (λ c. search needs)
     all-requires
-    border-count-requires
+    side-count-requires
     sum-requires
     (λ c κs. search needs)
     (λ c. search needs)
