@@ -105,7 +105,7 @@ int main(int argc, char **argv)
 {
     static uint8_t bytes[65538];
     int32_t shots[PATCH_COORDINATES_MOST];
-    size_t count;
+    size_t count, sides;
     uint64_t list[PATCH_WORDS];
 
     if (argc != 2 && argc != 3) {
@@ -126,7 +126,10 @@ int main(int argc, char **argv)
         if (refusal != 0)
             return refused("placing surface", refusal);
     }
-    printf("%s: accepted, %zu shots\n", argv[1], count);
+    refusal = patch_border(shots, length, &sides);
+    if (refusal != 0)
+        return refused(argv[1], refusal);
+    printf("%s: accepted, %zu shots, %zu sides\n", argv[1], count, sides);
     refusal = walk_from(shots, length, list);
     return refusal == 0 ? 0 : refused("walk", refusal);
 }

@@ -6,6 +6,8 @@ import sys
 
 # ---- the patches, as places in millimetres
 SQUARE = [(0, 0), (2, 0), (2, 2), (0, 2), (1, 1)]
+# a square with shot 4 halfway along a straight fence: four sides
+FENCE = [(0, 0), (2, 0), (2, 2), (0, 2), (1, 0)]
 # a pad of 12 m by 9 m, shots 4 and 5 inside it
 PAD = [(0, 0), (12000, 0), (12000, 9000), (0, 9000), (3000, 4000), (9000, 5000)]
 # the same pad after shots 4 and 5 traded their numbers
@@ -40,6 +42,7 @@ RECORDS = {
     "square-split.surface": surface(5, SQUARE_SPLIT),
     "square-half.surface": surface(5, ["012"]),
     "square-empty.surface": surface(5, []),
+    "fence.patch": patch(FENCE),
     "pad.patch": patch(PAD),
     "pad.surface": surface(6, PAD_LIST),
     # the list stayed in the store while the shots traded numbers: the surface folds over itself
