@@ -11,6 +11,7 @@
 --   walk-ends-so        the walk ends done, or is refused
 --   report-done         where it is done, the rows are printed, and they are exactly the surfaces that flips reach from w, each once
 --   report-full         where the table is full, the rows are printed
+--   border-field        the field `border` of its first line has the number that the call `border` gives: of sides
 use mathlib.Core.Path.{_≡_, refl, sym, _∙_, ap}
 use mathlib.Core.Logic.{_⊎_, inl, inr, _↔_}
 use mathlib.Core.Bool.{true, false}
@@ -25,9 +26,13 @@ use Rattle.algebra.proofs.OverLaws.{over-split}
 use Rattle.reach.specs.Walks.{Reply, made, done}
 use Rattle.reach.specs.Reach.{Stands}
 use Rattle.reach.proofs.Runs.{run-done}
+use Rattle.shots.specs.Patch.{countOf}
+use Rattle.shots.specs.Calls.{borderCallOf}
+use Rattle.shots.proofs.Promises.{border-gives}
 use Rattle.circuits.specs.Numbering.{circuitsOf}
 use Rattle.triples.specs.Sizes.{wordCount}
 use Rattle.lists.specs.Calls.{testOf}
+use Rattle.surfaces.specs.Areas.{areaSumOf}
 use Rattle.surfaces.specs.Calls.{placingOf}
 use Rattle.surfaces.proofs.Promises.{placing-words}
 use Rattle.walks.specs.Calls.{groundOf, walkAs}
@@ -38,9 +43,9 @@ use Rattle.records.specs.Fields.{Bytes}
 use Rattle.records.specs.Reading.{coordinatesOf}
 use Rattle.records.specs.Calls.{readPatchOf}
 use Rattle.records.proofs.Promises.{read-patch-long}
-use Rattle.text.specs.Lines.{Put, refusedLine}
+use Rattle.text.specs.Lines.{Put, patchLine, refusedLine}
 use Rattle.report.specs.Sizes.{tableWords, stepsMost}
-use Rattle.report.specs.Report.{noWalk, begunOf, walkOf, surfacesText, endText, endOf, walkText, placedText, patchText, reportOf}
+use Rattle.report.specs.Report.{noWalk, begunOf, walkOf, firstLine, surfacesText, endText, endOf, walkText, placedText, patchText, reportOf}
 use Rattle.report.specs.Report.{refusedFind, walkFind, placedFind, patchFind, findOf, lineCount, lineOf}
 use Rattle.report.proofs.WalkLaws.{placing-tested, begun-started, walk-walked, walk-not-made}
 use Rattle.report.proofs.LineLaws.{lines-refused, lines-end}
@@ -110,3 +115,7 @@ module _ (l : List ℤ) (w : List ℕ) (placed : placingOf l ≡ gives w) where
   pub report-full : walkOf l w .answer ≡ refuses 11 → walkText l w ≡ surfacesText l (endOf l w) false
   unfolding walkText
   report-full e = ap (λ (a : Answer Reply). endText l (endOf l w) a) e
+
+pub border-field : (l : List ℤ) (w : List ℕ) (v : ℕ) → borderCallOf l ≡ gives v → firstLine l w ≡ patchLine (countOf l) (length (circuitsOf l)) v (areaSumOf l w)
+unfolding firstLine
+border-field l w v e = ap (λ (b : ℕ). patchLine (countOf l) (length (circuitsOf l)) b (areaSumOf l w)) (border-gives l v .0 e .1)
