@@ -1,5 +1,5 @@
 /*
- * calls: every call of patch.h, with document 01's cases. It prints each case that does not answer as it should, then how many did.
+ * calls: every call of patch.h, with document 01's cases and E1's. It prints each case that does not answer as it should, then how many did.
  * What a call lends it finds unchanged where it is refused.
  */
 #include "patch.h"
@@ -23,8 +23,8 @@ static void is(int holds, const char *claim, int line)
 
 /* the square with its centre; C is 3: 0,2 against 4; 1,3 against 4; 0,2 against 1,3 */
 static const int32_t square[] = {0, 0, 2, 0, 2, 2, 0, 2, 1, 1};
-/* the square with a shot halfway along a side */
-static const int32_t halfway[] = {0, 0, 2, 0, 2, 2, 0, 2, 1, 0};
+/* the square with a shot halfway along a straight fence: four sides (E1) */
+static const int32_t fence[] = {0, 0, 2, 0, 2, 2, 0, 2, 1, 0};
 enum { N = 10 };
 /* five shots have ten triples: 012 013 014 023 024 034 123 124 134 234 */
 enum { T012 = 1 << 0, T013 = 1 << 1, T023 = 1 << 3, T024 = 1 << 4, T034 = 1 << 5, T123 = 1 << 6, T234 = 1 << 9 };
@@ -73,7 +73,7 @@ static void places(void)
     IS(patch_border(square, N, &count) == 0 && count == 4);
     IS(patch_border(square, 3, &count) == PATCH_COUNT && count == 4);
     count = 99;
-    IS(patch_border(halfway, N, &count) == 0 && count == 4);
+    IS(patch_border(fence, N, &count) == 0 && count == 4);
 }
 
 static void circuits(void)

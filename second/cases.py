@@ -23,7 +23,7 @@ GRID23 = [(x, y) for y in range(2) for x in range(3)]
 GRID33 = [(x, y) for y in range(3) for x in range(3)]
 GRID25 = [(x, y) for y in range(2) for x in range(5)]
 OUTLINE = [(0, 0), (4, 0), (0, 4), (2, 0), (6, 0), (2, 2), (0, -3), (8, -4)]
-HALFWAY = [(0, 0), (2, 0), (2, 2), (0, 2), (1, 0)]
+FENCE = [(0, 0), (2, 0), (2, 2), (0, 2), (1, 0)]
 MIDDLE_FIRST = [(1, 0), (0, 0), (2, 0), (0, 1), (2, 3)]
 LATE_START = [(0, 0), (4, 0), (2, 0), (6, 0), (1, 3), (-2, 0)]
 EXTREMES = [(-LIMIT, -LIMIT), (LIMIT, -LIMIT), (LIMIT, LIMIT), (-LIMIT, LIMIT), (0, 0), (1, 0), (LIMIT - 1, LIMIT)]
@@ -132,7 +132,7 @@ def fenced_patch(n, corners):
     ends = ends[:corners]
     sides = list(zip(ends, ends[1:] + ends[:1]))
     posts = {(ax + (bx - ax) * t // 4, ay + (by - ay) * t // 4) for (ax, ay), (bx, by) in sides for t in [1, 2, 3]}
-    return rng.sample(ends + rng.sample([*sorted(posts), (2, 1), (3, 1)], n - len(ends)), n)
+    return rng.sample(ends + rng.sample([*sorted(posts), (6, 1), (7, 1)], n - len(ends)), n)
 
 
 # Groups of cases
@@ -228,7 +228,7 @@ def extreme_cases():
 
 def side_cases():
     remark("sides: a shot halfway, lines of many shots, in any order of their numbers")
-    for patch in [HALFWAY, TRIANGLE, SQUARE, PENTAGON, GRID23, GRID25, GRID33, OUTLINE, MIDDLE_FIRST]:
+    for patch in [FENCE, TRIANGLE, SQUARE, PENTAGON, GRID23, GRID25, GRID33, OUTLINE, MIDDLE_FIRST]:
         case("border", patch)
         case("border", rng.sample(patch, len(patch)))
     remark("sides: shots along the sides of a triangle or a quadrilateral, with some inside, upright, level and slanted")

@@ -138,7 +138,7 @@ impl Patch {
         south.len() - 1 + self.left_turns(&along).len() - 1
     }
 
-    /// The shots in the order given, without each that a strict left turn leaves out.
+    /// The chain from the first of these shots to the last that turns strictly left at each shot between.
     fn left_turns(&self, along: &[usize]) -> Vec<usize> {
         let mut chain = Vec::new();
         for &shot in along {

@@ -2,7 +2,7 @@
 --
 --   tri              which of the three
 --   pos-mul, pos-add, pos-nn-add, nn-mul, nn-add     sums and products
---   pos-nn, nn-zero  what is positive, and what is 0, is not negative; `pos-cast`, `nn-cast` along an equation
+--   pos-nn, nn-zero  what is positive, and what is 0, is not negative; `pos-of-nn`: positive where it is not 0; `pos-cast`, `nn-cast` along an equation
 --   pos-neg-mul, neg-pos-mul, neg-mul     products with a negative factor
 --   pos-zero, neg-nn     the signs exclude one another
 --   mul-zero, zero-mul, both-zero, neg-zero     products, combinations and negatives that are 0
@@ -108,6 +108,14 @@ pos-np {X} {a} h k = pos-zero (pos-nn-add h k) (ring (a ∷ []) (var 0 ⊕ neg (
 
 pub neg-nn : {X : Type 0} {a : ℤ} → Neg a → NN a → X
 neg-nn {X} {a} h k = pos-np h (nn-cast (sym (negℤ-negℤ a)) k)
+
+pub pos-of-nn : (z : ℤ) → NN z → NZ z → Pos z
+pos-of-nn z h nz = go (tri z)
+  where
+    go : Tri z → Pos z
+    go (below n) = neg-nn n h
+    go (at-nought e) = absurd (nz e)
+    go (above p) = p
 
 -- a positive factor taken away
 pub pos-of-mul : {a b : ℤ} → Pos a → Pos (a *ℤ b) → Pos b

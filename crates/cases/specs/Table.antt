@@ -9,7 +9,7 @@
 --   walkFrom l w t b   a start from the list w over the table t, and then a run of b steps
 --   square        shots 0 (0,0), 1 (2,0), 2 (2,2), 3 (0,2), 4 (1,1)
 --   triangle      shots 0 (0,0), 1 (1,0), 2 (0,1)
---   halfway       shots 0 (0,0), 1 (2,0), 2 (2,2), 3 (0,2), 4 (1,0): E1
+--   fence         shots 0 (0,0), 1 (2,0), 2 (2,2), 3 (0,2), 4 (1,0): E1
 --
 -- Theorem: proofs/Cases (`cases-right`).
 use mathlib.Core.List.{List, [], _∷_, _++_}
@@ -78,8 +78,8 @@ square = pos 0 ∷ pos 0 ∷ pos 2 ∷ pos 0 ∷ pos 2 ∷ pos 2 ∷ pos 0 ∷ p
 abbrev pub triangle : List ℤ
 triangle = pos 0 ∷ pos 0 ∷ pos 1 ∷ pos 0 ∷ pos 0 ∷ pos 1 ∷ []
 
-abbrev pub halfway : List ℤ
-halfway = pos 0 ∷ pos 0 ∷ pos 2 ∷ pos 0 ∷ pos 2 ∷ pos 2 ∷ pos 0 ∷ pos 2 ∷ pos 1 ∷ pos 0 ∷ []
+abbrev pub fence : List ℤ
+fence = pos 0 ∷ pos 0 ∷ pos 2 ∷ pos 0 ∷ pos 2 ∷ pos 2 ∷ pos 0 ∷ pos 2 ∷ pos 1 ∷ pos 0 ∷ []
 
 -- ---- document 01's words
 
@@ -150,7 +150,7 @@ table =
     ∷ of-square (orientation 0 2 4) flat
     ∷ of-square (cocircuit 0 2) (five (pos 0) (negsuc 0) (pos 0) (pos 1) (pos 0))
     ∷ of-square border (count (gives 4))
-    ∷ record { patch = halfway; asked = border; stated = count (gives 4) }
+    ∷ record { patch = fence; asked = border; stated = count (gives 4) }
     ∷ of-square circuits (count (gives 3))
     ∷ of-square (circuit 0) (_against_ (0 ∷ 2 ∷ []) (4 ∷ []))
     ∷ of-square (circuit 1) (_against_ (1 ∷ 3 ∷ []) (4 ∷ []))

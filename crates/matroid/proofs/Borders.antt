@@ -1,7 +1,7 @@
 -- Border pairs and triangles of the plane, by their turns.
 --
 --   border-sides     a pair is a border pair exactly if no two points are on opposite sides of it
---   along            how far a point is along a pair; `turn-along`: by it a turn about two points on the line of a pair is one about the pair
+--   far              how far a point is along a pair; `turn-along`: by it a turn about two points on the line of a pair is one about the pair
 --   border-along     with a border pair each pair on its line is one
 --   simplex-three    a triangle has three points, off a line; `simplex-turns`: in whatever order
 use mathlib.Core.Path.{_≡_, sym, _∙_, ap, subst}
@@ -25,16 +25,16 @@ use Rattle.matroid.proofs.Sides.{turnAt, sides}
 -- ---- border pairs
 
 module _ (P : Points) where
-  abbrev pub along : (p q m : ℕ) → ℤ
-  along p q m = dot (P p) (P m) (P q)
+  abbrev pub far : (p q m : ℕ) → ℤ
+  far p q m = dot (P p) (P m) (P q)
 
-  pub turn-along : (p q i j m : ℕ) → turnAt P p q i ≡ pos 0 → turnAt P p q j ≡ pos 0 → along p q q *ℤ turnAt P i j m ≡ (along p q j -ℤ along p q i) *ℤ turnAt P p q m
+  pub turn-along : (p q i j m : ℕ) → turnAt P p q i ≡ pos 0 → turnAt P p q j ≡ pos 0 → far p q q *ℤ turnAt P i j m ≡ (far p q j -ℤ far p q i) *ℤ turnAt P p q m
   turn-along p q i j m ei ej =
       ring (coordinates (P p ∷ P q ∷ P i ∷ P j ∷ P m ∷ [])) (O 0 1 1 ⊗ D 2 3 4) (F 3 ⊗ D 0 1 4 ⊕ ((F 4 ⊝ F 3) ⊗ D 0 1 2 ⊕ neg (F 4) ⊗ D 0 1 3)) tt
-      ∙ ap (λ z. far j *ℤ turnAt P p q m +ℤ z) (both-zero (far m -ℤ far j) (negℤ (far m)) ei ej) ∙ +ℤ-idr (far j *ℤ turnAt P p q m)
+      ∙ ap (λ z. gap j *ℤ turnAt P p q m +ℤ z) (both-zero (gap m -ℤ gap j) (negℤ (gap m)) ei ej) ∙ +ℤ-idr (gap j *ℤ turnAt P p q m)
     where
-      far : ℕ → ℤ
-      far k = along p q k -ℤ along p q i
+      gap : ℕ → ℤ
+      gap k = far p q k -ℤ far p q i
 
       F : ℕ → Ex
       F k = O 0 k 1 ⊝ O 0 2 1
@@ -52,26 +52,26 @@ module _ (n : ℕ) (P : Points) where
       out b k l kn ln h (below p) = b ((l, ln, chirotope-turn P i j l ∙ signOf-pos (τ l) (pos-of-mul p (pos-cast (sym (*ℤ-neg-l (τ k) (τ l))) h))), (k, kn, chirotope-turn P i j k ∙ signOf-neg (τ k) p))
 
   pub border-along : (p q i j : ℕ) → (P q ≡ P p → ⊥) → turnAt P p q i ≡ pos 0 → turnAt P p q j ≡ pos 0 → Border n (plane P) (p ∷ q ∷ []) → Border n (plane P) (i ∷ j ∷ [])
-  border-along p q i j ne ei ej b = border-sides i j .1 (λ k l kn ln h. border-sides p q .0 b k l kn ln (neg-of-mul (sides P p q k l) (square-pos far (far-off k l h)) (pos-cast (ap negℤ (squared k l)) (pos-neg-mul (sides P i j k l) (square-pos long long-off) h))))
+  border-along p q i j ne ei ej b = border-sides i j .1 (λ k l kn ln h. border-sides p q .0 b k l kn ln (neg-of-mul (sides P p q k l) (square-pos gap (gap-off k l h)) (pos-cast (ap negℤ (squared k l)) (pos-neg-mul (sides P i j k l) (square-pos long long-off) h))))
     where
       long : ℤ
-      long = along P p q q
+      long = far P p q q
 
       long-off : NZ long
       long-off z = ne (dot-zero (P p) (P q) z)
 
       -- from i to j
-      far : ℤ
-      far = along P p q j -ℤ along P p q i
+      gap : ℤ
+      gap = far P p q j -ℤ far P p q i
 
-      about : (m : ℕ) → long *ℤ turnAt P i j m ≡ far *ℤ turnAt P p q m
+      about : (m : ℕ) → long *ℤ turnAt P i j m ≡ gap *ℤ turnAt P p q m
       about m = turn-along P p q i j m ei ej
 
-      squared : (k l : ℕ) → long *ℤ long *ℤ sides P i j k l ≡ far *ℤ far *ℤ sides P p q k l
-      squared k l = square-mul long (turnAt P i j k) (turnAt P i j l) ∙ (λ r. about k r *ℤ about l r) ∙ sym (square-mul far (turnAt P p q k) (turnAt P p q l))
+      squared : (k l : ℕ) → long *ℤ long *ℤ sides P i j k l ≡ gap *ℤ gap *ℤ sides P p q k l
+      squared k l = square-mul long (turnAt P i j k) (turnAt P i j l) ∙ (λ r. about k r *ℤ about l r) ∙ sym (square-mul gap (turnAt P p q k) (turnAt P p q l))
 
-      far-off : (k l : ℕ) → Neg (sides P i j k l) → NZ far
-      far-off k l h z = factor-l (turnAt P i j k) (turnAt P i j l) h (zero-of-mul long-off (about k ∙ zero-mul (turnAt P p q k) z))
+      gap-off : (k l : ℕ) → Neg (sides P i j k l) → NZ gap
+      gap-off k l h z = factor-l (turnAt P i j k) (turnAt P i j l) h (zero-of-mul long-off (about k ∙ zero-mul (turnAt P p q k) z))
 
 -- ---- triangles
 

@@ -11,9 +11,9 @@ use mathlib.Core.Path.{_≡_, sym, _∙_, ap}
 use mathlib.Core.List.{List, [], _∷_}
 use Prim.Native.Nat.{ℕ, zero, suc, _+_, _*_}
 use lib.IntN.{ℤ, pos, negℤ, _+ℤ_, _-ℤ_, _*ℤ_, +ℤ-comm}
-use Rattle.algebra.specs.Sign.{signOf, Pos, Tri, below, at-nought, above}
+use Rattle.algebra.specs.Sign.{signOf, Pos}
 use Rattle.algebra.proofs.Ring.{Ex, cst, var, _⊕_, _⊝_, _⊗_, neg, ring, sub-zero→eq}
-use Rattle.algebra.proofs.SignLaws.{tri, square-nn, squares-zero, nn-add, neg-nn}
+use Rattle.algebra.proofs.SignLaws.{square-nn, squares-zero, nn-add, pos-of-nn}
 use Rattle.algebra.specs.Loops.{tabulate}
 use Rattle.matroid.specs.Configurations.{volume, chirotope}
 use Rattle.matroid.specs.Points.{Point, Points, plane, turn, dot}
@@ -96,9 +96,4 @@ dot-zero p q e =
     (sub-zero→eq (q .y) (p .y) (squares-zero (q .y -ℤ p .y) (q .x -ℤ p .x) (+ℤ-comm ((q .y -ℤ p .y) *ℤ (q .y -ℤ p .y)) ((q .x -ℤ p .x) *ℤ (q .x -ℤ p .x)) ∙ e)))
 
 pub dot-pos : (p q : Point) → (q ≡ p → ⊥) → Pos (dot p q q)
-dot-pos p q ne = go (tri (dot p q q))
-  where
-    go : Tri (dot p q q) → Pos (dot p q q)
-    go (below h) = neg-nn h (nn-add (square-nn (q .x -ℤ p .x)) (square-nn (q .y -ℤ p .y)))
-    go (at-nought e) = absurd (ne (dot-zero p q e))
-    go (above h) = h
+dot-pos p q ne = pos-of-nn (dot p q q) (nn-add (square-nn (q .x -ℤ p .x)) (square-nn (q .y -ℤ p .y))) (λ e. ne (dot-zero p q e))

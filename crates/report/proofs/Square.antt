@@ -28,7 +28,7 @@ use Rattle.reach.specs.Walks.{WalkRecord, started, Reply, done, Landing, leaves
 use Rattle.reach.proofs.StepLaws.{possible-holds, done-made}
 use Rattle.reach.proofs.SpareLaws.{SameRows, Matches, run-spare, run-longer}
 use Rattle.shots.specs.Coordinates.{xOf, yOf, areaOf}
-use Rattle.shots.specs.Patch.{countOf, orientOf, betweenOf, someLeft, someRight, borderOf, outsideAt, someOutside, sideOf}
+use Rattle.shots.specs.Patch.{countOf, orientOf, betweenOf, someLeft, someRight, borderOf, outsideAt, someOutside, sidePairOf}
 use Rattle.shots.specs.Tests.{badCount, farAt, someFar, sameAt, sameBefore, someSame, bentAt, bentOf, bentBefore, someBent}
 use Rattle.shots.specs.Calls.{sidesOf}
 use Rattle.circuits.specs.Sides.{side, split}
@@ -73,7 +73,7 @@ unfolding chain any tabulate signOf xOf yOf areaOf orientOf farAt someFar sameAt
 square-read = (refl, refl)
 
 pub square-lines : surfacesText square ended true ≡ ascii "patch 5 circuits 3 border 4 area2 8\n0 2 4 012 023\n1 4 5 014 034 124 234\n2 2 4 013 123\ndone 3 9\n"
-unfolding any tally tabulate run over signOf xOf yOf areaOf orientOf betweenOf someLeft someRight borderOf outsideAt someOutside sideOf sidesOf isOn bit nest member rowOf oneIf three threesWith threesFrom threes four foursUpon foursWith foursFrom fours circuitsOf tripleCount tripleAt sizeOf areaSumOf tripleAreaOf digitsOf decimalOf usesOf usedOf shotsText tripleText rankText triplesText patchLine rowLine endWord lastLine firstLine lineAt surfacesText
+unfolding any tally tabulate run over signOf xOf yOf areaOf orientOf betweenOf someLeft someRight borderOf outsideAt someOutside sidePairOf sidesOf isOn bit nest member rowOf oneIf three threesWith threesFrom threes four foursUpon foursWith foursFrom fours circuitsOf tripleCount tripleAt sizeOf areaSumOf tripleAreaOf digitsOf decimalOf usesOf usedOf shotsText tripleText rankText triplesText patchLine rowLine endWord lastLine firstLine lineAt surfacesText
 square-lines = refl
 
 -- ---- from the bytes to the lines

@@ -2,7 +2,7 @@
 --
 --   near-gap      two coordinates differ by at most twice `farthest`
 --   area-small    a double area is at most eight times its square
---   sides-few   shot j makes at most j sides with smaller shots
+--   sides-few     shot j makes at most j sides with smaller shots
 use mathlib.Core.Bool.{Bool, true, false, cond}
 use mathlib.Core.List.{List}
 use Prim.Native.Nat.{ℕ, _+_, _*_, _≤_}
@@ -13,7 +13,7 @@ use Rattle.algebra.proofs.LoopLaws.{tally-below}
 use Rattle.algebra.proofs.SizeLaws.{natAbs-sub, mul-size}
 use Rattle.shots.specs.Sizes.{farthest}
 use Rattle.shots.specs.Coordinates.{xOf, yOf, areaOf}
-use Rattle.shots.specs.Patch.{sideOf}
+use Rattle.shots.specs.Patch.{sidePairOf}
 use Rattle.shots.specs.Tests.{Near}
 use Rattle.shots.specs.Calls.{sidesOf}
 
@@ -35,7 +35,7 @@ module _ (l : List ℤ) (h : Near l) where
 
 pub sides-few : (l : List ℤ) (j : ℕ) → sidesOf l j ≤ j
 unfolding sidesOf
-sides-few l j = omega (arith, tally-below (λ i. cond (sideOf l i j) 1 0) j 1 (λ i h. one (sideOf l i j)))
+sides-few l j = omega (arith, tally-below (λ i. cond (sidePairOf l i j) 1 0) j 1 (λ i h. one (sidePairOf l i j)))
   where
     one : (b : Bool) → cond b 1 0 ≤ 1
     one true = omega arith

@@ -7,7 +7,7 @@
 --   between-says                                 of three shots on a line, which of them lies between the others
 --   orientation-agrees                           what `orientation` gives is the chirotope, as -1, 0 or 1
 --
--- Border pairs: proofs/Borders.
+-- Border pairs: proofs/Borders; sides: proofs/Sides.
 use mathlib.Core.Path.{_≡_, refl, sym, _∙_, ap}
 use mathlib.Core.Logic.{_⊎_, inl, inr, _↔_}
 use mathlib.Core.Bool.{true}

@@ -1,6 +1,6 @@
 -- Sides are the published ones, and `border` counts them (document 02, E1).
 --
---   side-says             a pair passes the test of a side exactly when it is one
+--   side-says             in an accepted patch a pair passes the test of a side exactly when it is one
 --   pair-on-one-side      a border pair of an accepted patch is on exactly one side
 --   border-counts-sides   `border` gives a number exactly when the patch is accepted and some list of that length holds each side once, and nothing else
 use mathlib.Core.Path.{_≡_, refl, sym, _∙_, ap, subst}
@@ -24,7 +24,7 @@ use Rattle.matroid.specs.Points.{Between}
 use Rattle.matroid.specs.Triangulations.{Border}
 use Rattle.matroid.proofs.SideLaws.{border-on-one-side}
 use Rattle.shots.specs.Coordinates.{pointOf, patchOf, areaOf}
-use Rattle.shots.specs.Patch.{countOf, orientOf, betweenOf, outsideAt, someOutside, sideOf}
+use Rattle.shots.specs.Patch.{countOf, orientOf, betweenOf, outsideAt, someOutside, sidePairOf}
 use Rattle.shots.specs.Tests.{refusalOf}
 use Rattle.shots.specs.Lines.{shotLines, SidePairs}
 use Rattle.shots.specs.Calls.{sidesOf, borderCallOf}
@@ -51,8 +51,8 @@ module _ (l : List ℤ) where
       between : (k : ℕ) → k < n → (k ≡ j → ⊥) → orientOf l i j k ≡ nought → (betweenOf l k i j ≡ true) ↔ Between (pointOf l k) (pointOf l i) (pointOf l j)
       between k kn kj z = between-says l h k i j kn jn kj (orient-cycle l k i j ∙ z)
 
-      side-decided : Reflects (Side n (pointOf l) i j) (sideOf l i j)
-      unfolding sideOf someOutside Outside orientOf areaOf
+      side-decided : Reflects (Side n (pointOf l) i j) (sidePairOf l i j)
+      unfolding sidePairOf someOutside Outside orientOf areaOf
       side-decided = reflects-iff (
         λ (b, none). record {
           border = b;
@@ -63,7 +63,7 @@ module _ (l : List ℤ) where
         λ s. (s .border, λ (k, kn, (ki, (kj, (o, nb)))). nb (between k kn kj o .1 (s .between k kn ki kj (zero-signOf (areaOf l i j k) o)))),
       ) (reflects-and (border-decided l i j) (reflects-not (reflects-any Outside (outsideAt l i j) n (λ k _. outside-decided k))))
 
-      pub side-says : (sideOf l i j ≡ true) ↔ Side n (pointOf l) i j
+      pub side-says : (sidePairOf l i j ≡ true) ↔ Side n (pointOf l) i j
       side-says = (λ t. reflects-yes side-decided t, λ s. reflects-true side-decided s)
 
   pub pair-on-one-side : refusalOf l ≡ 0 → (p q : ℕ) → p < q → q < n → Border n (patchOf l) (p ∷ q ∷ [])
@@ -73,7 +73,7 @@ module _ (l : List ℤ) where
   -- ---- all of them, as `border` goes through them
 
   one : ℕ → ℕ → List (List ℕ)
-  one j i = kept (λ _. sideOf l i j) ((i ∷ j ∷ []) ∷ [])
+  one j i = kept (λ _. sidePairOf l i j) ((i ∷ j ∷ []) ∷ [])
 
   with : ℕ → List (List ℕ)
   with j = over (one j) 0 j
@@ -81,11 +81,11 @@ module _ (l : List ℤ) where
   pairs : List (List ℕ)
   pairs = over with 0 n
 
-  with-out : (j : ℕ) {e : List ℕ} → List·Memᴰ e (with j) → (i : ℕ) × (e ≡ i ∷ j ∷ []) × (i < j) × (sideOf l i j ≡ true)
+  with-out : (j : ℕ) {e : List ℕ} → List·Memᴰ e (with j) → (i : ℕ) × (e ≡ i ∷ j ∷ []) × (i < j) × (sidePairOf l i j ≡ true)
   unfolding with one
   with-out j {e} m =
       let (i, _, h, k) = over-out (one j) 0 j m in
-      let (p, t) = kept-out (λ _. sideOf l i j) e ((i ∷ j ∷ []) ∷ []) k in
+      let (p, t) = kept-out (λ _. sidePairOf l i j) e ((i ∷ j ∷ []) ∷ []) k in
       (i, List·Memᴰ·eq-of-singleton p, h, t)
 
   two : {i j i′ j′ : ℕ} → _≡_ {A = List ℕ} (i ∷ j ∷ []) (i′ ∷ j′ ∷ []) → (i ≡ i′) × (j ≡ j′)
@@ -97,11 +97,11 @@ module _ (l : List ℤ) where
   with-apart : (j : ℕ) → Apart Other (with j)
   unfolding with one
   with-apart j =
-      over-apart (one j) Other 0 j (λ i _ _. kept-apart (λ _. sideOf l i j) ((i ∷ j ∷ []) ∷ []) (λ y m. absurd (List·Memᴰ·not-nil m), tt))
+      over-apart (one j) Other 0 j (λ i _ _. kept-apart (λ _. sidePairOf l i j) ((i ∷ j ∷ []) ∷ []) (λ y m. absurd (List·Memᴰ·not-nil m), tt))
       (λ i i′ _ h _ x y m m′ e. less h (two (sym (is i x m) ∙ e ∙ is i′ y m′) .0))
     where
       is : (i : ℕ) (x : List ℕ) → List·Memᴰ x (one j i) → x ≡ i ∷ j ∷ []
-      is i x m = List·Memᴰ·eq-of-singleton (kept-out (λ _. sideOf l i j) x ((i ∷ j ∷ []) ∷ []) m .0)
+      is i x m = List·Memᴰ·eq-of-singleton (kept-out (λ _. sidePairOf l i j) x ((i ∷ j ∷ []) ∷ []) m .0)
 
   pairs-apart : Apart Other pairs
   unfolding pairs
@@ -116,7 +116,7 @@ module _ (l : List ℤ) where
       size i j false = refl
 
       sized : (j : ℕ) → length (with j) ≡ sidesOf l j
-      sized j = over-sized (one j) (λ k. tally k (λ i. cond (sideOf l i j) 1 0)) j refl (λ i _. ap (λ (x : ℕ). tally i (λ i. cond (sideOf l i j) 1 0) + x) (size i j (sideOf l i j)))
+      sized j = over-sized (one j) (λ k. tally k (λ i. cond (sidePairOf l i j) 1 0)) j refl (λ i _. ap (λ (x : ℕ). tally i (λ i. cond (sidePairOf l i j) 1 0) + x) (size i j (sidePairOf l i j)))
 
   all-pairs : refusalOf l ≡ 0 → SidePairs l pairs
   unfolding pairs with one
@@ -127,7 +127,7 @@ module _ (l : List ℤ) where
           (i, j, q, h, jn, side-says i j a jn .0 t),
       λ (i, j, q, h, jn, s). subst (λ (x : List ℕ). List·Memᴰ x pairs) (sym q)
           (over-in with 0 n j (omega arith) jn (over-in (one j) 0 j i (omega arith) h
-          (kept-in (λ _. sideOf l i j) (i ∷ j ∷ []) ((i ∷ j ∷ []) ∷ []) (List·Memᴰ·head refl) (side-says i j a jn .1 s)))),
+          (kept-in (λ _. sidePairOf l i j) (i ∷ j ∷ []) ((i ∷ j ∷ []) ∷ []) (List·Memᴰ·head refl) (side-says i j a jn .1 s)))),
     );
     once = λ p q h k. apart-at Other pairs [] p q pairs-apart h k;
   }

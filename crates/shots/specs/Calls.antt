@@ -24,7 +24,7 @@ use Rattle.algebra.specs.Loops.{tabulate, tally}
 use Rattle.algebra.specs.Sign.{value}
 use Rattle.shots.specs.Sizes.{shotsMost}
 use Rattle.shots.specs.Coordinates.{areaOf}
-use Rattle.shots.specs.Patch.{countOf, orientOf, sideOf}
+use Rattle.shots.specs.Patch.{countOf, orientOf, sidePairOf}
 use Rattle.shots.specs.Tests.{shotRules}
 use Rattle.shots.specs.declared.Accepted.{Accepted}
 use Rattle.shots.specs.declared.Accepted.the-variants as A
@@ -99,7 +99,7 @@ cocircuitOf l i j =
 
 -- how many i < j make a side with j
 unfoldable pub sidesOf : List ℤ → ℕ → ℕ
-sidesOf l j = tally j (λ i. cond (sideOf l i j) 1 0)
+sidesOf l j = tally j (λ i. cond (sidePairOf l i j) 1 0)
 
 unfoldable pub borderCallOf : List ℤ → Answer ℕ
 borderCallOf l = chain (shotRules l) (tally (countOf l) (sidesOf l))

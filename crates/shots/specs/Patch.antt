@@ -1,5 +1,5 @@
 -- What the tests, circuits and surfaces above this room are computed from: how many shots a patch has, the orientation of three, which of three on a line is
--- between the others, and which pairs are border pairs and sides. Beside it, sums of areas read `areaOf`, the published statements `patchOf` (specs/Coordinates), and records the run itself.
+-- between the others, and which pairs are border pairs; and which are sides, for `border` and the report. Beside it, sums of areas read `areaOf`, the published statements `patchOf` (specs/Coordinates), and records the run itself.
 --
 --   countOf l          the number of shots of the run l
 --   orientOf l a b c   the orientation of three shots: the sign of their double area
@@ -8,7 +8,7 @@
 --   borderOf l i j     the cocircuit of the pair has no two opposite signs
 --   outsideAt l i j k  shot k is another shot on the line of i and j, and not between the two
 --   someOutside l i j  some shot is
---   sideOf l i j       a side: a border pair where every other shot on their line lies between the two
+--   sidePairOf l i j   a side: a border pair where every other shot on their line lies between the two
 --
 -- Theorems: proofs/Orientations, proofs/Borders, proofs/Sides. Source: document 01, "Shots and orientation"; source 001, section 3.1; document 02, E1.
 use mathlib.Core.Bool.{Bool, not, _&&_}
@@ -46,5 +46,5 @@ outsideAt l i j k = not (eqb k i) && (not (eqb k j) && (isNought (orientOf l i j
 unfoldable pub someOutside : List ℤ → ℕ → ℕ → Bool
 someOutside l i j = any (countOf l) (outsideAt l i j)
 
-unfoldable pub sideOf : List ℤ → ℕ → ℕ → Bool
-sideOf l i j = borderOf l i j && not (someOutside l i j)
+unfoldable pub sidePairOf : List ℤ → ℕ → ℕ → Bool
+sidePairOf l i j = borderOf l i j && not (someOutside l i j)

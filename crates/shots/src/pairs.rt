@@ -3,7 +3,7 @@ ghost use mathlib.Core.Path.{_≡_};
 ghost use Prim.Native.Nat.{_≤_, _<_};
 ghost use Rattle.algebra.specs.Loops.{tabulate, tally};
 ghost use Rattle.shots.specs.Sizes.{shotsMost};
-ghost use Rattle.shots.specs.Patch.{countOf, someLeft, borderOf, outsideAt, someOutside, sideOf};
+ghost use Rattle.shots.specs.Patch.{countOf, someLeft, borderOf, outsideAt, someOutside, sidePairOf};
 ghost use Rattle.shots.specs.Tests.{Near};
 ghost use Rattle.shots.specs.Calls.{signAt, sidesOf};
 use super::SHOTS_MOST;
@@ -92,9 +92,9 @@ fn some_outside(shots: &[i32], i: usize, j: usize) -> bool
     false
 }
 
-pub fn is_side(shots: &[i32], i: usize, j: usize) -> bool
+fn is_side(shots: &[i32], i: usize, j: usize) -> bool
     requires { ⌜ (i < countOf (now shots)) × (j < countOf (now shots)) × Near (now shots) ⌝ }
-    ensures { λ r. ⌜ r ≡ sideOf (now (shots .entry)) i j ⌝ }
+    ensures { λ r. ⌜ r ≡ sidePairOf (now (shots .entry)) i j ⌝ }
 {
     if is_border(shots, i, j) {
         return !some_outside(shots, i, j);

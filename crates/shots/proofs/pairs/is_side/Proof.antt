@@ -2,16 +2,16 @@
 use mathlib.Core.Path.{sym, _∙_, ap}
 use mathlib.Core.Bool.{not}
 use borrow.Author.Needs.{needs}
-use Rattle.shots.specs.Patch.{sideOf}
+use Rattle.shots.specs.Patch.{sidePairOf}
 use Rattle.shots.proofs.pairs.is_side.Statement.{statement}
 use Rattle.shots.proofs.pairs.is_side.Tie as tie
 
 returns : tie.Need-returns
-unfolding sideOf
+unfolding sidePairOf
 returns c = simp (sym (c .before .before .is-border .ensures) ∙ c .before .if1 .taken) (ap not (c .some-outside .ensures))
 
 returns-2 : tie.Need-returns-2
-unfolding sideOf
+unfolding sidePairOf
 returns-2 c = simp (sym (c .before .is-border .ensures) ∙ c .if1 .left)
 
 pub is-side-spec : {M : Type 1} → statement M

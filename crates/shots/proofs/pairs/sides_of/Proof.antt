@@ -7,13 +7,13 @@ use native.Mathlib.Omega.{arith}
 use borrow.Author.Needs.{needs}
 use Rattle.algebra.specs.Loops.{tally}
 use Rattle.algebra.proofs.LoopLaws.{tally-none, tally-more, tally-end}
-use Rattle.shots.specs.Patch.{sideOf}
+use Rattle.shots.specs.Patch.{sidePairOf}
 use Rattle.shots.specs.Calls.{sidesOf}
 use Rattle.shots.proofs.pairs.sides_of.Statement.{statement}
 use Rattle.shots.proofs.pairs.sides_of.Tie as tie
 
 abbrev Inv-loop : tie.InvT-loop
-Inv-loop shots j count₀ i₀ count i = (i ≤ j) × (count ≤ i) × (count ≡ tally i (λ i. cond (sideOf shots i j) 1 0))
+Inv-loop shots j count₀ i₀ count i = (i ≤ j) × (count ≤ i) × (count ≡ tally i (λ i. cond (sidePairOf shots i j) 1 0))
 
 abbrev μ-loop : tie.MeasureT-loop
 μ-loop shots j count₀ i₀ count i = j - i
@@ -24,7 +24,7 @@ loop-holds c = (search needs, search needs, tally-none _)
 -- the branch adds 1 for a side
 next : (c : tie.Joined1 Inv-loop μ-loop) →
     let d = c .before .before .before in
-    c .if1 .count ≡ d .loop .count + cond (sideOf (d .before .args .shots .now) (d .loop .i) (d .before .args .j)) 1 0
+    c .if1 .count ≡ d .loop .count + cond (sidePairOf (d .before .args .shots .now) (d .loop .i) (d .before .args .j)) 1 0
 next c =
     ⊎-elim
     (λ k. simp (sym (c .before .is-side .ensures) ∙ k .0 .taken) (k .1))
