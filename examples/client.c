@@ -3,9 +3,9 @@
  *
  *     client PATCH [SURFACE]
  *
- * reads a patch record and, where one is named, a surface record, and tests it. It prints the refusal in words, or the number of shots and of sides and
- * every surface that flips reach from the stored one (from the placing surface where none is named). Exit status: 0, 1 where a record is refused, 2 where a file
- * cannot be read.
+ * reads a patch record and, where one is named, a surface record, and tests it. It prints the refusal in words, or the numbers of shots and
+ * sides and every surface that flips reach from the stored one (from the placing surface where none is named). Exit status: 0, 1 where a
+ * record is refused, 2 where a file cannot be read.
  */
 #include "patch.h"
 

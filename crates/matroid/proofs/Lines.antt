@@ -1,6 +1,7 @@
 -- Points on a line.
 --
 --   between-iff        a point on the line of two others is between them exactly when its scalar product is negative
+--   between-turned     between two points, the other way round
 --   middle-of-three    of three different points on a line one is in the middle
 --   line-through       the points are on the line of two different ones where none of them turns off it
 --   collinear-iff      one line holds the points exactly when no three turn
@@ -11,7 +12,7 @@ use mathlib.Core.List.{List, [], _∷_}
 use Prim.Native.Nat.{ℕ, zero, suc, _<_}
 use native.Mathlib.Omega.{arith}
 use native.Mathlib.Decide.{ℕ-discrete, decLt}
-use lib.IntN.{ℤ, pos, negℤ, _+ℤ_, _-ℤ_, _*ℤ_, +ℤ-invr}
+use lib.IntN.{ℤ, pos, negℤ, _+ℤ_, _-ℤ_, _*ℤ_, +ℤ-comm, +ℤ-invr}
 use Rattle.algebra.specs.Sign.{signOf, Pos, Neg, NZ, Tri, below, at-nought, above}
 use Rattle.algebra.proofs.Ring.{Ex, cst, var, _⊕_, _⊝_, _⊗_, neg, ring, sub-zero→eq}
 use Rattle.algebra.proofs.SignLaws.{tri, mul-zero, both-zero, pos-cast, pos-mul, pos-add, pos-zero, pos-of-mul, zero-of-mul, dec-nz, zero-if, signOf-zero, zero-signOf}
@@ -44,6 +45,16 @@ between-iff m p q e ne = (into, out)
             (var 5 ⊗ (var 2 ⊗ var 2 ⊕ var 3 ⊗ var 3) ⊝ var 4 ⊗ neg (var 0 ⊗ var 2 ⊕ var 1 ⊗ var 3))
             (var 2 ⊗ (var 4 ⊗ var 0 ⊕ var 5 ⊗ var 2) ⊕ var 3 ⊗ (var 4 ⊗ var 1 ⊕ var 5 ⊗ var 3)) tt
             ∙ both-zero (q .x -ℤ m .x) (q .y -ℤ m .y) (b .xs) (b .ys))
+
+pub between-turned : (m p q : Point) → Between m p q → Between m q p
+between-turned m p q b = record {
+  u = b .v;
+  v = b .u;
+  u-pos = b .v-pos;
+  v-pos = b .u-pos;
+  xs = +ℤ-comm (b .v *ℤ (q .x -ℤ m .x)) (b .u *ℤ (p .x -ℤ m .x)) ∙ b .xs;
+  ys = +ℤ-comm (b .v *ℤ (q .y -ℤ m .y)) (b .u *ℤ (p .y -ℤ m .y)) ∙ b .ys;
+}
 
 -- ---- of three different points on a line one is in the middle
 

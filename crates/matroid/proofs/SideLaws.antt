@@ -8,29 +8,19 @@ use mathlib.Core.List.{[], _∷_}
 use Prim.Native.Nat.{ℕ, _<_}
 use native.Mathlib.Omega.{arith}
 use native.Mathlib.Decide.{ℕ-discrete, decLt}
-use lib.IntN.{ℤ, pos, negℤ, _+ℤ_, _-ℤ_, _*ℤ_, +ℤ-comm, +ℤ-idr, +ℤ-invr, ℤ-discrete}
+use lib.IntN.{ℤ, pos, negℤ, _+ℤ_, _-ℤ_, _*ℤ_, +ℤ-idr, +ℤ-invr, ℤ-discrete}
 use Rattle.algebra.specs.Sign.{Pos, Neg, NN, NZ}
 use Rattle.algebra.proofs.Ring.{cst, var, _⊕_, _⊝_, _⊗_, neg, ring}
 use Rattle.algebra.proofs.SignLaws.{pos-cast, nn-cast, pos-mul, neg-pos-mul, nn-add, pos-nn-add, pos-nn, pos-of-nn, pos-add, pos-zero, neg-nn, pos-of-mul, neg-of-mul, zero-of-mul, mul-zero, both-zero}
 use Rattle.matroid.specs.Borders.{Aligned, Side, OnSide}
-use Rattle.matroid.specs.Points.{Point, Points, plane, Between, Distinct, dot}
+use Rattle.matroid.specs.Points.{Points, plane, Between, Distinct, dot}
 use Rattle.matroid.specs.Triangulations.{Border}
 use Rattle.matroid.proofs.Borders.{far, turn-along, border-along}
-use Rattle.matroid.proofs.Lines.{between-iff}
+use Rattle.matroid.proofs.Lines.{between-iff, between-turned}
 use Rattle.matroid.proofs.Planar.{points-differ}
 use Rattle.matroid.proofs.Search.{Min, minimum}
 use Rattle.matroid.proofs.Sides.{turnAt}
 use Rattle.matroid.proofs.Turns.{coordinates, D, O, turn-cycle, turn-swap-first, turn-last, turn-ends, dot-zero, dot-pos}
-
-between-turned : (m p q : Point) → Between m p q → Between m q p
-between-turned m p q b = record {
-  u = b .v;
-  v = b .u;
-  u-pos = b .v-pos;
-  v-pos = b .u-pos;
-  xs = +ℤ-comm (b .v *ℤ (q .x -ℤ m .x)) (b .u *ℤ (p .x -ℤ m .x)) ∙ b .xs;
-  ys = +ℤ-comm (b .v *ℤ (q .y -ℤ m .y)) (b .u *ℤ (p .y -ℤ m .y)) ∙ b .ys;
-}
 
 module _ (n : ℕ) (P : Points) (ds : Distinct n P) where
   differ : (a b : ℕ) → a < n → b < n → (a ≡ b → ⊥) → P a ≡ P b → ⊥

@@ -1,6 +1,6 @@
 -- The border of points in the plane, by its sides (document 02, E1). Border pairs: Triangulations, `Border`. A `Side` of a sign (algebra) is another thing.
 --
---   Aligned P i j k      point k is on the line of points i and j
+--   Aligned P i j k      point k is on the line of points i and j; it holds of every point where those two are one place
 --   Side n P i j         points i and j are the ends of a side of the first n points: a border pair, and each other point on their line is strictly between the two
 --   OnSide n P p q i j   points p and q are on the line of the side i < j; where they are among the n, each is an end of it or between the ends
 --
