@@ -54,18 +54,20 @@ static void patches(void)
 
 static void places(void)
 {
-    int8_t sign = 9;
+    int64_t signed_area = 9;
     uint64_t area = 99;
     size_t count = 99;
     int8_t signs[PATCH_SHOTS_MOST];
     static const int8_t row[PATCH_SHOTS_MOST] = {0, -1, 0, 1, 0};
-    IS(patch_orientation(square, N, 0, 1, 2, &sign) == 0 && sign == 1);
-    IS(patch_orientation(square, N, 0, 2, 1, &sign) == 0 && sign == -1);
-    IS(patch_orientation(square, N, 0, 2, 4, &sign) == 0 && sign == 0);
-    sign = 9;
-    IS(patch_orientation(square, N, 0, 1, 5, &sign) == PATCH_FORM && sign == 9);
-    IS(patch_orientation(square, 9, 0, 1, 2, &sign) == PATCH_COUNT && sign == 9);
-    IS(patch_double_area(square, N, 0, 1, 2, &area) == 0 && area == 4);
+    static const int32_t widest[] = {-1000000, -1000000, 1000000, -1000000, 1000000, 1000000};
+    IS(patch_orientation(square, N, 0, 1, 2, &signed_area) == 0 && signed_area == 4);
+    IS(patch_orientation(square, N, 0, 2, 1, &signed_area) == 0 && signed_area == -4);
+    IS(patch_orientation(square, N, 0, 2, 4, &signed_area) == 0 && signed_area == 0);
+    IS(patch_orientation(widest, 6, 0, 1, 2, &signed_area) == 0 && signed_area == 4000000000000);
+    IS(patch_orientation(widest, 6, 1, 0, 2, &signed_area) == 0 && signed_area == -4000000000000);
+    IS(patch_orientation(square, N, 0, 1, 5, &signed_area) == PATCH_FORM && signed_area == -4000000000000);
+    IS(patch_orientation(square, 9, 0, 1, 2, &signed_area) == PATCH_COUNT && signed_area == -4000000000000);
+    IS(patch_double_area(square, N, 0, 2, 1, &area) == 0 && area == 4);
     IS(patch_double_area(square, N, 0, 1, (size_t)-1, &area) == PATCH_FORM && area == 4);
     memset(signs, 9, sizeof signs);
     IS(patch_cocircuit(square, N, 0, 2, signs) == 0 && memcmp(signs, row, sizeof signs) == 0);

@@ -4,11 +4,12 @@
  *     client PATCH [SURFACE]
  *
  * reads a patch record and, where one is named, a surface record, and tests it. It prints the refusal in words, or the numbers of shots and
- * sides and every surface that flips reach from the stored one (from the placing surface where none is named). Exit status: 0, 1 where a
- * record is refused, 2 where a file cannot be read.
+ * sides, the double area, and every surface that flips reach from the stored one (from the placing surface where none is named). Exit status:
+ * 0, 1 where a record is refused, 2 where a file cannot be read.
  */
 #include "patch.h"
 
+#include <inttypes.h>
 #include <stdio.h>
 #include <stdlib.h>
 
@@ -69,6 +70,21 @@ static uint8_t show(const int32_t *shots, size_t length, const uint64_t *list)
     return refusal;
 }
 
+/* the double area of an accepted list: one call for each triangle says which way it turns and how large it is */
+static uint8_t measure(const int32_t *shots, size_t length, const uint64_t *list, uint64_t *twice)
+{
+    uint8_t record[PATCH_SURFACE_BYTES];
+    size_t size;
+    int64_t area;
+    *twice = 0;
+    uint8_t refusal = patch_write_surface(shots, length, list, record, sizeof record, &size);
+    for (size_t at = 5; refusal == 0 && at < size; at += 3) {
+        refusal = patch_orientation(shots, length, record[at], record[at + 1], record[at + 2], &area);
+        *twice += area < 0 ? -area : area;
+    }
+    return refusal;
+}
+
 /* All surfaces from the first one. The table grows when it is full: the same step is then asked again over the longer one. */
 static uint8_t walk_from(const int32_t *shots, size_t length, const uint64_t *first)
 {
@@ -106,7 +122,7 @@ int main(int argc, char **argv)
     static uint8_t bytes[65538];
     int32_t shots[PATCH_COORDINATES_MOST];
     size_t count, sides;
-    uint64_t list[PATCH_WORDS];
+    uint64_t list[PATCH_WORDS], twice;
 
     if (argc != 2 && argc != 3) {
         fprintf(stderr, "usage: %s PATCH [SURFACE]\n", argv[0]);
@@ -129,7 +145,10 @@ int main(int argc, char **argv)
     refusal = patch_border(shots, length, &sides);
     if (refusal != 0)
         return refused(argv[1], refusal);
-    printf("%s: accepted, %zu shots, %zu sides\n", argv[1], count, sides);
+    refusal = measure(shots, length, list, &twice);
+    if (refusal != 0)
+        return refused(argv[argc - 1], refusal);
+    printf("%s: accepted, %zu shots, %zu sides, double area %" PRIu64 "\n", argv[1], count, sides, twice);
     refusal = walk_from(shots, length, list);
     return refusal == 0 ? 0 : refused("walk", refusal);
 }

@@ -18,7 +18,8 @@ static int passed, failed;
 static const int32_t shots[] = {0, 0, 12000, 0, 6000, 9000, 3000, 1000, 9000, 1100, 5800, 7000, 5000, 2500, 7200, 2700, 6100, 4700, 6000, 1200};
 enum { N = sizeof shots / sizeof shots[0], ROWS = 5000 };
 
-static int8_t sign, signs[PATCH_SHOTS_MOST];
+static int8_t signs[PATCH_SHOTS_MOST];
+static int64_t signed_area;
 static uint64_t area, list[PATCH_WORDS], table[ROWS * PATCH_WORDS];
 static size_t count, size;
 static uint16_t plus, minus;
@@ -27,7 +28,7 @@ static uint8_t answer, done, bytes[PATCH_SURFACE_BYTES];
 static int32_t back[PATCH_COORDINATES_MOST];
 
 static void accept(void) { answer = patch_accept(shots, N); }
-static void orientation(void) { answer = patch_orientation(shots, N, 0, 1, 9, &sign); }
+static void orientation(void) { answer = patch_orientation(shots, N, 0, 1, 9, &signed_area); }
 static void double_area(void) { answer = patch_double_area(shots, N, 0, 1, 9, &area); }
 static void cocircuit(void) { answer = patch_cocircuit(shots, N, 0, 9, signs); }
 static void border(void) { answer = patch_border(shots, N, &count); }

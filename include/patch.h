@@ -6,7 +6,7 @@
  * surface that flips reach from a first one. Each call is proved to answer as stated here, for every input (docs/PROMISES.md).
  *
  * THE ANSWER. A call returns one number: 0 where it gives something, else the number that refuses it, 1 to 15. What it gives is never
- * in that number: it is written to places that the caller lends (sign, area, count, list, ...). So 0 and a refusal cannot be
+ * in that number: it is written to places that the caller lends (area, count, list, ...). So 0 and a refusal cannot be
  * mistaken for a value. Where several rules are broken, the refusals are tested in the order written at the call.
  *
  * A REFUSED CALL changes nothing that it was lent: no list, table, record, buffer, flag or count. One exception: patch_run keeps the
@@ -87,13 +87,15 @@ typedef struct patch_walk {
 /* Is the run a patch? Refused: 1 2 3 4. */
 uint8_t patch_accept(const int32_t *shots, size_t length);
 
-/* *sign: 1 where a, b, c turn counterclockwise, -1 clockwise, 0 on a line. Refused: 1 2 3 4, 7 (one of them is not a shot). */
-uint8_t patch_orientation(const int32_t *shots, size_t length, size_t a, size_t b, size_t c, int8_t *sign);
+/* *area: twice the area of the triangle a, b, c, in square millimetres: positive where they turn counterclockwise, negative where clockwise,
+   0 on a line and for shots that are not all different. Refused: 1 2 3 4, 7 (one of them is not a shot). */
+uint8_t patch_orientation(const int32_t *shots, size_t length, size_t a, size_t b, size_t c, int64_t *area);
 
-/* *area: twice the area of the triangle a, b, c, in square millimetres. Refused: 1 2 3 4, 7 (one of them is not a shot). */
+/* *area: the size of what patch_orientation gives. Refused: as there. */
 uint8_t patch_double_area(const int32_t *shots, size_t length, size_t a, size_t b, size_t c, uint64_t *area);
 
-/* signs[k]: the orientation of i, j, k for each shot k; 0 past the shots. Refused: 1 2 3 4, 7 (not a pair i < j of shots). */
+/* signs[k]: for each shot k the sign of what patch_orientation gives for i, j, k: -1, 0 or 1; 0 past the shots. Refused: 1 2 3 4, 7 (not a pair
+   i < j of shots). */
 uint8_t patch_cocircuit(const int32_t *shots, size_t length, size_t i, size_t j, int8_t signs[PATCH_SHOTS_MOST]);
 
 /* *count: the sides of the patch. A side is a pair of shots with no two others on opposite sides of their line, and every other shot on that

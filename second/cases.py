@@ -226,6 +226,24 @@ def extreme_cases():
     case("read_patch", patch_record(EXTREMES))
 
 
+def orientation_cases():
+    remark("orientation: every order of three shots, near, far and on a line")
+    for patch, t in [(SQUARE, (0, 1, 2)), (SQUARE, (1, 3, 4)), (EXTREMES, (0, 1, 2)), (EXTREMES, (1, 3, 6)), (EXTREMES, (4, 5, 6)), (LATE_START, (0, 2, 5))]:
+        for order in itertools.permutations(t):
+            case("orientation", patch, *order)
+    remark("orientation: shots that are not all different")
+    for t in [(1, 1, 2), (1, 2, 2), (1, 2, 1), (2, 2, 2)]:
+        case("orientation", EXTREMES, *t)
+        case("double_area", EXTREMES, *t)
+    remark("orientation: four shots whose areas balance, around, crosswise, one inside, three on a line")
+    for patch, (a, b, c, d) in [(SQUARE, (0, 1, 2, 3)), (SQUARE, (0, 2, 1, 3)), (EXTREMES, (0, 1, 2, 3)), (EXTREMES, (0, 1, 6, 4)), (PENTAGON, (4, 1, 3, 0)), (LATE_START, (5, 0, 4, 3))]:
+        for t in [(a, b, c), (a, c, d), (a, b, d), (b, c, d)]:
+            case("orientation", patch, *t)
+    remark("orientation: several faults at once")
+    for shots in BAD_SHOTS:
+        case("orientation", shots, U64, 9, 9)
+
+
 def side_cases():
     remark("sides: a shot halfway, lines of many shots, in any order of their numbers")
     for patch in [FENCE, TRIANGLE, SQUARE, PENTAGON, GRID23, GRID25, GRID33, OUTLINE, MIDDLE_FIRST]:
@@ -600,7 +618,7 @@ def main():
         document_cases, run_cases, shot_cases, extreme_cases, circuit_cases, list_cases, changed_surface_cases,
         folded_cases, placing_cases, flip_cases, random_patch_cases, refused_shot_cases, refused_list_cases,
         start_cases, walk_record_cases, table_cases, random_table_cases, run_length_cases, capacity_cases,
-        patch_record_cases, surface_record_cases, buffer_cases, result_cases, side_cases,
+        patch_record_cases, surface_record_cases, buffer_cases, result_cases, side_cases, orientation_cases,
     ]:
         group()
 

@@ -120,7 +120,7 @@ fn list_answer(call: &str, arguments: &mut Arguments, patch: Result<Patch, Refus
 
 fn turn_answer(call: &str, patch: &Patch, [a, b, c]: [u64; 3]) -> Result<String, Refusal> {
     let turn = patch.turn([patch.shot(a)?, patch.shot(b)?, patch.shot(c)?]);
-    Ok(if call == "orientation" { format!("sign {}", turn.signum()) } else { format!("area {}", turn.abs()) })
+    Ok(format!("area {}", if call == "orientation" { turn } else { turn.abs() }))
 }
 
 fn circuit_answer(number: u64, patch: &Patch) -> Result<String, Refusal> {

@@ -4,6 +4,8 @@
 --   chain-gives     it gives its value exactly when no line holds
 --   chain-refuses-upon, chain-gives-upon    the same where its second part is decided only if no line of the first part holds
 --   given-refused   a value is no refusal
+--   on-value-chain  a chain with a function of its value
+--   in-case         what an answer reads as, read of the case that it is
 --   one-answer      two answers with one reading are one answer
 --   chain-broken, chain-kept, chain-stop, chain-after    what a sequence of tests in the code says of its chain
 --   chain-stops, chain-goes                 what a first part, known by its answer, says of a longer chain
@@ -34,7 +36,7 @@ use native.Mathlib.Omega.{arith}
 use lib.Dec.{ltb, leb, eqb}
 use lib.IntN.{ℤ, pos, negsuc, pos-ne-negsuc}
 use borrow.Author.Tests.{ltb-true, ltb-false, leb-true, leb-false, eqb-true, eqb-false}
-use Rattle.algebra.specs.Answer.{Answer, gives, refuses, Rule, chain, refusal, Numbered, Line, First, Clear, Reflects, holds, fails, Decides}
+use Rattle.algebra.specs.Answer.{Answer, gives, refuses, onValue, Rule, chain, refusal, Numbered, Line, First, Clear, Reflects, holds, fails, Decides}
 use Rattle.algebra.specs.Sign.{Sign, minus, nought, plus, signOf, Neg, isMinus, isNought, isPlus, eqZ}
 use Rattle.algebra.proofs.SignLaws.{neg-signOf, zero-signOf, signOf-neg, signOf-zero, plus-minus, plus-nought, minus-nought}
 
@@ -52,11 +54,24 @@ refuses-one e = cc
 gives-one : {A : Type 0} {v w : A} → gives v ≡ gives w → v ≡ w
 gives-one e = cc
 
+-- the code has matched the answer r, and found the case s
+pub in-case : {E A : Type 0} (read : E → A) {r s : E} {a : A} → r ≡ s → read r ≡ a → read s ≡ a
+in-case read e p = sym (ap read e) ∙ p
+
 -- an answer is known by its reading, where the reading can be undone
 pub one-answer : {E A : Type 0} (read : E → A) (back : A → E) → ((r : E) → back (read r) ≡ r) → {x : A} {r r′ : E} → read r ≡ x → read r′ ≡ x → r ≡ r′
 one-answer read back undone {x} {r} {r′} p q = sym (undone r) ∙ ap back (p ∙ sym q) ∙ undone r′
 
 -- ---- chains
+
+pub on-value-chain : {A B : Type 0} (f : A → B) (rs : List Rule) (v : A) → onValue f (chain rs v) ≡ chain rs (f v)
+unfolding chain
+on-value-chain f [] v = refl
+on-value-chain f (r ∷ rs) v = go (r .broken) (on-value-chain f rs v)
+  where
+    go : (b : Bool) → onValue f (chain rs v) ≡ chain rs (f v) → onValue f (cond b (refuses (r .number)) (chain rs v)) ≡ cond b (refuses (r .number)) (chain rs (f v))
+    go true ih = refl
+    go false ih = ih
 
 module _ {A : Type 0} where
   -- one rule more, decided; what follows it matters only where it is kept

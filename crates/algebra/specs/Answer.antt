@@ -1,6 +1,7 @@
 -- What a call answers in document 01's terms, and its table of refusals, once as tests that compute and once as statements.
 --
 --   Answer A        a value of A, or the number that refuses the call
+--   onValue f a     f of the value that a gives; a refusal stays
 --   Rule            a refusal number, and the test that says whether its rule is broken
 --   chain rs v      the number of the first broken rule of rs, and v where none is broken
 --   refusal rs      that number alone, and 0 where no rule is broken
@@ -21,6 +22,10 @@ use Prim.Native.Nat.{ℕ, _<_}
 pub data Answer (A : Type 0) : Type 0 where
   gives : A → Answer A
   refuses : ℕ → Answer A
+
+abbrev pub onValue : {A B : Type 0} → (A → B) → Answer A → Answer B
+onValue f (gives v) = gives (f v)
+onValue f (refuses n) = refuses n
 
 pub record Rule : Type 0 where
   pub number : ℕ

@@ -1,4 +1,4 @@
--- The proved cases of document 01, "The square with its centre", and that of document 02, E1, as one table: a patch, what is asked of it, and the answer that the document states; of document
+-- The proved cases of document 01, "The square with its centre", and of document 02, E1 and E6, as one table: a patch, what is asked of it, and the answer that the document states; of document
 -- 01's run cases those of the walk.
 --
 --   Question      a call and its numbers; or the double areas of a list, summed
@@ -43,7 +43,7 @@ pub data Question : Type 0 where
   walk : List ℕ → List ℕ → ℕ → Question
 
 pub data Told : Type 0 where
-  sign : Answer ℤ → Told
+  area : Answer ℤ → Told
   signs : Cocircuit → Told
   count : Answer ℕ → Told
   sides : Answer Sides → Told
@@ -56,7 +56,7 @@ abbrev pub walkFrom : List ℤ → List ℕ → List ℕ → ℕ → Landing Rep
 walkFrom l w t b = let x = startOf (groundOf l) t (record { rows = 0; step = 0 }) w in runOf (groundOf l) (x .table) (x .walk) b
 
 abbrev pub replyTo : List ℤ → Question → Told
-replyTo l (orientation a b c) = sign (orientationOf l a b c)
+replyTo l (orientation a b c) = area (orientationOf l a b c)
 replyTo l (cocircuit i j) = signs (cocircuitOf l i j)
 replyTo l border = count (borderCallOf l)
 replyTo l circuits = count (countCallOf l)
@@ -82,15 +82,6 @@ abbrev pub fence : List ℤ
 fence = pos 0 ∷ pos 0 ∷ pos 2 ∷ pos 0 ∷ pos 2 ∷ pos 2 ∷ pos 0 ∷ pos 2 ∷ pos 1 ∷ pos 0 ∷ []
 
 -- ---- document 01's words
-
-abbrev positive : Told
-positive = sign (gives (pos 1))
-
-abbrev negative : Told
-negative = sign (gives (negsuc 0))
-
-abbrev flat : Told
-flat = sign (gives (pos 0))
 
 -- the signs of the five shots, and 0 past them
 abbrev five : ℤ → ℤ → ℤ → ℤ → ℤ → Told
@@ -145,9 +136,9 @@ of-square q r = record { patch = square; asked = q; stated = r }
 
 abbrev pub table : List Case
 table =
-    of-square (orientation 0 1 2) positive
-    ∷ of-square (orientation 0 2 1) negative
-    ∷ of-square (orientation 0 2 4) flat
+    of-square (orientation 0 1 2) (area (gives (pos 4)))
+    ∷ of-square (orientation 0 2 1) (area (gives (negsuc 3)))
+    ∷ of-square (orientation 0 2 4) (area (gives (pos 0)))
     ∷ of-square (cocircuit 0 2) (five (pos 0) (negsuc 0) (pos 0) (pos 1) (pos 0))
     ∷ of-square border (count (gives 4))
     ∷ record { patch = fence; asked = border; stated = count (gives 4) }

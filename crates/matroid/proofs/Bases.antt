@@ -3,6 +3,7 @@
 --   volume-front, volume-repeated    a volume is 0 where it is 0 with a point moved to the front, and where a point stands twice
 --   Basis n P B            some of the first n points, in any order, whose volume is not 0; `simplex-basis`: a simplex is one
 --   basis-once             no point stands twice in a basis
+--   volumes-balance        points of one list, each weighed with the volume of the others, the signs alternating, balance in every column of the matrix
 --   weights P s            for each place of s the volume of the other points, with alternating signs; 0 elsewhere
 --   weights-off, weights-at, weights-on, weights-under    their values; where they are not 0; they live where f does
 --   weigh                  a sum with such weights, as an alternating sum
@@ -59,6 +60,11 @@ basis-once {n} {P} b i r = apart-middle (r .front) i (r .back) (swaps-apart (vol
 
 -- ---- weights
 
+-- the determinant with a column twice
+pub volumes-balance : (P : Configuration) (s : List ℕ) (c : ℕ) → c < rank P → alt (volume P) s (λ m. row P m c) ≡ pos 0
+volumes-balance P s c l =
+    sym (by-column (row P) s c (columns (rank P))) ∙ repeated (det (row P) s) (columns-swap (row P) s) c (columns (rank P)) (tabulate-in (λ i. i) (rank P) c l)
+
 abbrev pub weights : Configuration → List ℕ → ℕ → ℤ
 weights P s m = alt (volume P) s (λ i. unit i m)
 
@@ -100,11 +106,8 @@ module _ (n : ℕ) (P : Configuration) where
     each = λ c l. at (suc c) (omega arith);
   }
     where
-      -- the determinant with a column twice
       at : (c : ℕ) → c < rank P → sum n (λ m. weights P s m *ℤ row P m c) ≡ pos 0
-      at c l =
-          weigh n P s low (λ m. row P m c) ∙ sym (by-column (row P) s c (columns (rank P)))
-          ∙ repeated (det (row P) s) (columns-swap (row P) s) c (columns (rank P)) (tabulate-in (λ i. i) (rank P) c l)
+      at c l = weigh n P s low (λ m. row P m c) ∙ volumes-balance P s c l
 
   pub dep-volume : (f : ℕ → ℤ) → Dependency n P f → (r : List ℕ) → sum n (λ m. f m *ℤ volume P (m ∷ r)) ≡ pos 0
   dep-volume f h r = alt-sum n f (det (row P) r) (columns (rank P)) (row P) ∙ alt-none (det (row P) r) (columns (rank P)) (λ c. sum n (λ m. f m *ℤ row P m c))

@@ -1,15 +1,16 @@
--- The determinant of three points and the scalar product: their identities, each by `ring`.
+-- The determinant of three points and the scalar product: their identities, by `ring`.
 --
 --   coordinates ps     the environment of `ring` for a list of points: point i has the variables 2 i and 2 i + 1
 --   X i, Y i           the coordinates of point i, as expressions
 --   D i j k, O m i j   turn and dot of the points of these numbers, as expressions
 --   altEx, detEx       alternating sums and determinants, as expressions
 --
--- Main theorems: `turn-is-volume`, `chirotope-turn`; alternating: `turn-cycle`, `turn-swap`, `turn-swap-first`; repeated points: `turn-first`, `turn-last`, `turn-ends`; `turn-form`;
+-- Main theorems: `turn-is-volume`, `chirotope-turn`; alternating: `turn-cycle`, `turn-swap`, `turn-swap-first`; repeated points: `turn-first`, `turn-last`, `turn-ends`; four points: `turn-balance`; `turn-form`;
 -- `dot-base`, `dot-zero`, `dot-pos`: the scalar product, and that different points are apart; `point-path`: points with the same coordinates are the same.
 use mathlib.Core.Path.{_≡_, sym, _∙_, ap}
 use mathlib.Core.List.{List, [], _∷_}
 use Prim.Native.Nat.{ℕ, zero, suc, _+_, _*_}
+use native.Mathlib.Omega.{arith}
 use lib.IntN.{ℤ, pos, negℤ, _+ℤ_, _-ℤ_, _*ℤ_, +ℤ-comm}
 use Rattle.algebra.specs.Sign.{signOf, Pos}
 use Rattle.algebra.proofs.Ring.{Ex, cst, var, _⊕_, _⊝_, _⊗_, neg, ring, sub-zero→eq}
@@ -17,6 +18,7 @@ use Rattle.algebra.proofs.SignLaws.{square-nn, squares-zero, nn-add, pos-of-nn}
 use Rattle.algebra.specs.Loops.{tabulate}
 use Rattle.matroid.specs.Configurations.{volume, chirotope}
 use Rattle.matroid.specs.Points.{Point, Points, plane, turn, dot}
+use Rattle.matroid.proofs.Bases.{volumes-balance}
 
 -- ---- expressions
 
@@ -77,6 +79,22 @@ turn-last a b = ring (coordinates (a ∷ b ∷ [])) (D 0 1 1) (cst (pos 0)) tt
 
 pub turn-ends : (a b : Point) → turn a b a ≡ pos 0
 turn-ends a b = ring (coordinates (a ∷ b ∷ [])) (D 0 1 0) (cst (pos 0)) tt
+
+-- of four points: `volumes-balance` in the plane, in the column of the ones
+volume-balance : (P : Points) (a b c d : ℕ) → volume (plane P) (a ∷ b ∷ c ∷ []) +ℤ volume (plane P) (a ∷ c ∷ d ∷ []) ≡ volume (plane P) (a ∷ b ∷ d ∷ []) +ℤ volume (plane P) (b ∷ c ∷ d ∷ [])
+volume-balance P a b c d =
+    sub-zero→eq _ _ (ring (v b c d ∷ v a c d ∷ v a b d ∷ v a b c ∷ []) (var 3 ⊕ var 1 ⊝ (var 2 ⊕ var 0)) (neg (one (var 0) (one (var 1) (one (var 2) (one (var 3) (cst (pos 0))))))) tt
+    ∙ ap negℤ (volumes-balance (plane P) (a ∷ b ∷ c ∷ d ∷ []) 0 (omega arith)))
+  where
+    v : ℕ → ℕ → ℕ → ℤ
+    v i j k = volume (plane P) (i ∷ j ∷ k ∷ [])
+
+    one : Ex → Ex → Ex
+    one x y = cst (pos 1) ⊗ x ⊝ y
+
+pub turn-balance : (P : Points) (a b c d : ℕ) → turn (P a) (P b) (P c) +ℤ turn (P a) (P c) (P d) ≡ turn (P a) (P b) (P d) +ℤ turn (P b) (P c) (P d)
+turn-balance P a b c d =
+    (λ k. turn-is-volume P a b c k +ℤ turn-is-volume P a c d k) ∙ volume-balance P a b c d ∙ (λ k. sym (turn-is-volume P a b d) k +ℤ sym (turn-is-volume P b c d) k)
 
 -- as an affine form of the last point
 pub turn-form : (p q z : Point) → turn p q z ≡ (p .y -ℤ q .y) *ℤ z .x +ℤ (q .x -ℤ p .x) *ℤ z .y +ℤ (p .x *ℤ q .y -ℤ p .y *ℤ q .x)

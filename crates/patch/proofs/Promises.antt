@@ -14,8 +14,8 @@ use Prim.Native.Nat.{ℕ, zero, suc, _*_, _/_, _%_, _<_}
 use native.Mathlib.Omega.{arith}
 use lib.Dec.{eqb}
 use lib.ListN.{length, getD}
-use lib.IntN.{ℤ}
-use Rattle.algebra.specs.Answer.{Answer, gives, refuses, Rule, chain, Numbered}
+use lib.IntN.{ℤ, natAbs}
+use Rattle.algebra.specs.Answer.{Answer, gives, refuses, onValue, Rule, chain, Numbered}
 use Rattle.algebra.specs.Words.{rowOf}
 use Rattle.algebra.proofs.AnswerLaws.{given-refused, chain-ends, numbered-append}
 use Rattle.reach.specs.Walks.{Ground, WalkRecord, started, Reply, made, done, Landing, onlyIf, capacityOf, seenIn, walkRules}
@@ -111,6 +111,10 @@ ground-start-apart g t w r h = go (g .test r) h
 
 -- ---- the calls
 
+value-apart : {A B : Type 0} (f : A → B) (a : Answer A) → Apart a → Apart (onValue f a)
+value-apart f (gives v) h = given-apart (f v)
+value-apart f (refuses n) h = refused-apart (apart-refused h)
+
 -- the rules of the shots come first, then ss
 shots-apart : {A : Type 0} (l : List ℤ) (ss : List Rule) (v : A) → Numbered ss → Apart (chain (shotRules l ++ ss) v)
 shots-apart l ss v h = chain-apart (shotRules l ++ ss) v (numbered-append (shotRules l) ss (shots-numbered l) h)
@@ -130,7 +134,7 @@ module _ (l : List ℤ) where
 
   pub double-area-apart : (a b c : ℕ) → Apart (doubleAreaOf l a b c)
   unfolding doubleAreaOf
-  double-area-apart a b c = shots-apart l (shotsRule l a b c ∷ []) _ (omega arith, tt)
+  double-area-apart a b c = value-apart natAbs (orientationOf l a b c) (orientation-apart a b c)
 
   pub cocircuit-apart : (i j : ℕ) → Apart (cocircuitOf l i j .answer)
   unfolding cocircuitOf

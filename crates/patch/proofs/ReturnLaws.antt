@@ -1,18 +1,18 @@
 -- What a C caller gets of a call, from what the room's call ensures: its answer r reads as the definition's, a. In each law the code has matched r, and found the case s.
 --
---   in-case             the case reads as a too
 --   returned            the number that is returned, and what is left at a lent place that held x
 --   returned-beside     the same of what is given beside the answer
 --   returned-list       the same of a list that is given and then written, for the words that stood there
 --   returned-writing    the number of a writer, its buffer t, and what is left at the lent place of its count
 --   returned-landing    all that a call of the walk leaves
 --   returned-step       the same of a step or run, with the lent flag that held f
-use mathlib.Core.Path.{_≡_, sym, _∙_, ap}
+use mathlib.Core.Path.{_≡_, _∙_, ap}
 use mathlib.Core.List.{List}
 use Prim.Native.Nat.{ℕ}
 use lib.ListN.{length}
 use Rattle.algebra.specs.Answer.{Answer, gives}
 use Rattle.algebra.specs.Words.{setRow}
+use Rattle.algebra.proofs.AnswerLaws.{in-case}
 use Rattle.algebra.proofs.WordLaws.{row-only}
 use Rattle.reach.specs.Walks.{Reply, Landing, leaves}
 use Rattle.triples.specs.Sizes.{wordCount}
@@ -23,9 +23,6 @@ use Rattle.records.specs.declared.Written.{Written}
 use Rattle.patch.specs.Returns.{numberOf, leftAt, besideAt, doneAt, leftBy, leftOf}
 
 -- ---- answers
-
-pub in-case : {E A : Type 0} (read : E → A) {r s : E} {a : A} → r ≡ s → read r ≡ a → read s ≡ a
-in-case read e p = sym (ap read e) ∙ p
 
 module _ {E A : Type 0} (read : E → Answer A) where
   pub returned : (x : A) {r s : E} {a : Answer A} → r ≡ s → read r ≡ a → (numberOf (read s) ≡ numberOf a) × (leftAt x (read s) ≡ leftAt x a)

@@ -3,9 +3,9 @@
 // A call returns one number: 0, or the number that refuses it. What it gives it writes to a place that the caller lends; a refused call leaves every lent place as it was.
 //
 //   patch_accept           is the run a patch?                               1 2 3 4
-//   patch_orientation      the sign of three shots                           1-4, 7
-//   patch_double_area      the size of their double area                     1-4, 7
-//   patch_cocircuit        the orientation of a pair with every shot         1-4, 7
+//   patch_orientation      the double area of three shots, with its sign     1-4, 7
+//   patch_double_area      its size                                          1-4, 7
+//   patch_cocircuit        its sign, for a pair with every shot              1-4, 7
 //   patch_border           the number of sides                               1-4
 //   patch_circuits         C, the number of circuits                         1-4
 //   patch_circuit          the two sides of circuit z                        1-4, 12
@@ -62,14 +62,14 @@ pub extern "C" fn patch_orientation(
     a: usize,
     b: usize,
     c: usize,
-    sign: &mut i8,
+    area: &mut i64,
 ) -> u8
-    ensures { λ r. ⌜ (r ≡ numberOf (orientationOf (now (shots .entry)) a b c)) × (now (sign .exit) ≡ leftAt (now (sign .entry)) (orientationOf (now (shots .entry)) a b c)) ⌝ }
+    ensures { λ r. ⌜ (r ≡ numberOf (orientationOf (now (shots .entry)) a b c)) × (now (area .exit) ≡ leftAt (now (area .entry)) (orientationOf (now (shots .entry)) a b c)) ⌝ }
 {
     match shots::orientation(shots, a, b, c) {
         Oriented::Refused(number) => number,
-        Oriented::Sign(s) => {
-            *sign = s;
+        Oriented::Area(signed) => {
+            *area = signed;
             0
         }
     }

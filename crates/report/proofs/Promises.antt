@@ -8,33 +8,37 @@
 --   report-read         an accepted one: what placing answers decides
 --   report-walk         where that is a surface w: the walk from w
 --   report-surfaces     that walk keeps the promise of demand 3
---   walk-ends-so        the walk ends done, or is refused
+--   walk-ends-so        the walk ends done, or with the table full
 --   report-done         where it is done, the rows are printed, and they are exactly the surfaces that flips reach from w, each once
 --   report-full         where the table is full, the rows are printed
---   border-field        the field `border` of its first line has the number that the call `border` gives: of sides
+--   report-begins       the report of an accepted record begins with the first line, whose fields have what the calls give, and with the line of the placing surface
 use mathlib.Core.Path.{_≡_, refl, sym, _∙_, ap}
-use mathlib.Core.Logic.{_⊎_, inl, inr, _↔_}
-use mathlib.Core.Bool.{true, false}
-use mathlib.Core.List.{List, _++_}
+use mathlib.Core.Logic.{_⊎_, inl, inr, ⊎-elim, _↔_}
+use mathlib.Core.Bool.{Bool, true, false}
+use mathlib.Core.List.{List, _++_, append-assoc, append-nil}
 use Prim.Native.Nat.{ℕ, _*_, _≤_}
+use native.Mathlib.Omega.{arith}
 use lib.ListN.{length, replicate}
 use lib.IntN.{ℤ}
 use Rattle.algebra.specs.Answer.{Answer, gives, refuses}
-use Rattle.algebra.specs.Loops.{over}
-use Rattle.algebra.specs.Words.{Words}
+use Rattle.algebra.specs.Loops.{tally, run, over}
+use Rattle.algebra.specs.Words.{Words, rowOf}
 use Rattle.algebra.proofs.OverLaws.{over-split}
 use Rattle.reach.specs.Walks.{Reply, made, done}
 use Rattle.reach.specs.Reach.{Stands}
 use Rattle.reach.proofs.Runs.{run-done}
 use Rattle.shots.specs.Patch.{countOf}
-use Rattle.shots.specs.Calls.{borderCallOf}
-use Rattle.shots.proofs.Promises.{border-gives}
+use Rattle.shots.specs.Calls.{sidesOf}
+use Rattle.shots.proofs.Promises.{shots-kept, border-gives}
 use Rattle.circuits.specs.Numbering.{circuitsOf}
+use Rattle.circuits.proofs.Promises.{count-gives}
 use Rattle.triples.specs.Sizes.{wordCount}
 use Rattle.lists.specs.Calls.{testOf}
 use Rattle.surfaces.specs.Areas.{areaSumOf}
+use Rattle.surfaces.specs.Placing.{placedOf}
 use Rattle.surfaces.specs.Calls.{placingOf}
-use Rattle.surfaces.proofs.Promises.{placing-words}
+use Rattle.surfaces.proofs.AreaSums.{area-sum-says}
+use Rattle.surfaces.proofs.Promises.{placing-gives, placing-words}
 use Rattle.walks.specs.Calls.{groundOf, walkAs}
 use Rattle.walks.specs.Surfaces.{Reachable}
 use Rattle.walks.specs.Demand.{Demand-3}
@@ -42,12 +46,13 @@ use Rattle.walks.proofs.Theorem.{walk-surfaces}
 use Rattle.records.specs.Fields.{Bytes}
 use Rattle.records.specs.Reading.{coordinatesOf}
 use Rattle.records.specs.Calls.{readPatchOf}
-use Rattle.records.proofs.Promises.{read-patch-long}
-use Rattle.text.specs.Lines.{Put, patchLine, refusedLine}
+use Rattle.records.proofs.Promises.{read-patch-accepted, read-patch-long}
+use Rattle.text.specs.Lines.{Put, rowLine, lastLine, refusedLine}
 use Rattle.report.specs.Sizes.{tableWords, stepsMost}
-use Rattle.report.specs.Report.{noWalk, begunOf, walkOf, firstLine, surfacesText, endText, endOf, walkText, placedText, patchText, reportOf}
+use Rattle.report.specs.Report.{noWalk, begunOf, walkOf, firstLine, lineAt, surfacesText, endText, endOf, walkText, placedText, patchText, reportOf}
 use Rattle.report.specs.Report.{refusedFind, walkFind, placedFind, patchFind, findOf, lineCount, lineOf}
-use Rattle.report.proofs.WalkLaws.{placing-tested, begun-started, walk-walked, walk-not-made}
+use Rattle.report.specs.Fields.{Begins}
+use Rattle.report.proofs.WalkLaws.{placing-tested, begun-started, walk-walked, rows-fit, walk-not-made, walk-full}
 use Rattle.report.proofs.LineLaws.{lines-refused, lines-end}
 
 pub part-one : (b t : List ℕ) (i j : ℕ) {u u′ : List ℕ} {r r′ : ℕ} → Put t 0 (over (lineOf (coordinatesOf b) (findOf b)) i j) u r → Put t 0 (over (lineOf (coordinatesOf b) (findOf b)) i j) u′ r′ → (r ≡ r′) × (u ≡ u′)
@@ -95,14 +100,14 @@ module _ (l : List ℤ) (w : List ℕ) (placed : placingOf l ≡ gives w) where
   unfolding begunOf
   report-surfaces = walk-surfaces l w words (replicate tableWords 0) noWalk (begun-started l w accepted) (walkOf l w .table) (walkAs (walkOf l w .walk)) (walk-walked l w accepted)
 
-  -- it is never only made
-  pub walk-ends-so : (walkOf l w .answer ≡ gives done) ⊎ ((n : ℕ) × (walkOf l w .answer ≡ refuses n))
+  -- it is never only made, and refused only for want of a row
+  pub walk-ends-so : (walkOf l w .answer ≡ gives done) ⊎ (walkOf l w .answer ≡ refuses 11)
   walk-ends-so = go (walkOf l w .answer) refl
     where
-      go : (a : Answer Reply) → walkOf l w .answer ≡ a → (walkOf l w .answer ≡ gives done) ⊎ ((n : ℕ) × (walkOf l w .answer ≡ refuses n))
+      go : (a : Answer Reply) → walkOf l w .answer ≡ a → (walkOf l w .answer ≡ gives done) ⊎ (walkOf l w .answer ≡ refuses 11)
       go (gives made) e = absurd (walk-not-made l w accepted (words .0) e)
       go (gives done) e = inl e
-      go (refuses n) e = inr (n, e)
+      go (refuses n) e = inr (e ∙ ap refuses (walk-full l w accepted words n e))
 
   pub report-done : walkOf l w .answer ≡ gives done
       → (walkText l w ≡ surfacesText l (endOf l w) true) × (walkOf l w .walk .step ≡ walkOf l w .walk .rows * length (circuitsOf l))
@@ -116,6 +121,40 @@ module _ (l : List ℤ) (w : List ℕ) (placed : placingOf l ≡ gives w) where
   unfolding walkText
   report-full e = ap (λ (a : Answer Reply). endText l (endOf l w) a) e
 
-pub border-field : (l : List ℤ) (w : List ℕ) (v : ℕ) → borderCallOf l ≡ gives v → firstLine l w ≡ patchLine (countOf l) (length (circuitsOf l)) v (areaSumOf l w)
+  -- so its surfaces are shown
+  walk-shows : (d : Bool) × (walkText l w ≡ surfacesText l (endOf l w) d)
+  walk-shows = ⊎-elim (λ e. (true, report-done e .0)) (λ e. (false, report-full e)) walk-ends-so
+
+  first-row : over (lineAt (countOf l) (walkOf l w .table)) 0 (walkOf l w .walk .rows) ≡ rowLine (countOf l) 0 w ++ over (lineAt (countOf l) (walkOf l w .table)) 1 (walkOf l w .walk .rows)
+  unfolding lineAt over run
+  first-row =
+      over-split (lineAt (countOf l) (walkOf l w .table)) 0 1 (walkOf l w .walk .rows) (omega arith) (rows-fit l w accepted (words .0) .0)
+      ∙ (λ k. append-nil (rowLine (countOf l) 0 (report-surfaces .first k)) k ++ over (lineAt (countOf l) (walkOf l w .table)) 1 (walkOf l w .walk .rows))
+
+  surfaces-begin : (d : Bool) → surfacesText l (endOf l w) d
+      ≡ firstLine l w ++ (rowLine (countOf l) 0 w ++ (over (lineAt (countOf l) (walkOf l w .table)) 1 (walkOf l w .walk .rows) ++ lastLine d (walkOf l w .walk .rows) (walkOf l w .walk .step)))
+  unfolding surfacesText
+  surfaces-begin d =
+      let last : List ℕ = lastLine d (walkOf l w .walk .rows) (walkOf l w .walk .step) in
+      (λ k. firstLine l (report-surfaces .first k) ++ (first-row k ++ last))
+      ∙ ap (λ (s : List ℕ). firstLine l w ++ s) (append-assoc (rowLine (countOf l) 0 w) (over (lineAt (countOf l) (walkOf l w .table)) 1 (walkOf l w .walk .rows)) last)
+
+pub report-begins : (b : List ℕ) (n : ℕ) → readPatchOf b .answer ≡ gives n → Begins b
 unfolding firstLine
-border-field l w v e = ap (λ (b : ℕ). patchLine (countOf l) (length (circuitsOf l)) b (areaSumOf l w)) (border-gives l v .0 e .1)
+report-begins b n e =
+    let l : List ℤ = coordinatesOf b in
+    let patch = shots-kept l .1 (read-patch-accepted b n e) in
+    let placed = placing-gives l (placedOf l) .1 (patch, refl) in
+    let (d, shown) = walk-shows l (placedOf l) placed in
+    record {
+      row = placedOf l;
+      circuits = length (circuitsOf l);
+      sides = tally (countOf l) (sidesOf l);
+      area = areaSumOf l (placedOf l);
+      rest = over (lineAt (countOf l) (walkOf l (placedOf l) .table)) 1 (walkOf l (placedOf l) .walk .rows) ++ lastLine d (walkOf l (placedOf l) .walk .rows) (walkOf l (placedOf l) .walk .step);
+      text = report-walk b n (placedOf l) e placed ∙ shown ∙ surfaces-begin l (placedOf l) placed d;
+      row-is = placed;
+      circuits-is = count-gives l _ .1 (patch, refl);
+      sides-is = border-gives l _ .1 (patch, refl);
+      area-is = area-sum-says l patch (placedOf l) _ .1 refl;
+    }

@@ -7,16 +7,19 @@
 --   begun-walked, walk-walked    start and run make a walk, in the sense of demand 3
 --   rows-fit                     its rows fit into the table
 --   walk-not-made                it is never only made: it ends done, or is refused
+--   walk-full                    and refused only where the table is full
 use mathlib.Core.Path.{_≡_, sym, _∙_, ap, subst}
+use mathlib.Core.Logic.{⊎-elim}
 use mathlib.Core.List.{List}
 use Prim.Native.Nat.{ℕ, _<_, _≤_}
 use native.Mathlib.Omega.{arith}
 use native.Mathlib.Nat.{mul-le-mul-left}
 use lib.ListN.{length, replicate, length-replicate}
 use lib.IntN.{ℤ}
-use Rattle.algebra.specs.Answer.{gives}
-use Rattle.algebra.specs.Words.{setRow}
-use Rattle.reach.specs.Walks.{Begun, started, made, Landing, leaves, rowsMost, capacityOf}
+use Rattle.algebra.specs.Answer.{gives, refuses}
+use Rattle.algebra.specs.Words.{Words, setRow}
+use Rattle.algebra.proofs.AnswerLaws.{first-clear}
+use Rattle.reach.specs.Walks.{Begun, started, Reply, made, Landing, leaves, rowsMost, capacityOf}
 use Rattle.reach.specs.Walked.{Walked, starts, runs}
 use Rattle.reach.proofs.TableLaws.{run-long, start-long}
 use Rattle.reach.proofs.StepLaws.{start-writes}
@@ -30,7 +33,9 @@ use Rattle.lists.proofs.Promises.{test-accepts}
 use Rattle.surfaces.specs.Calls.{placingOf}
 use Rattle.surfaces.proofs.Promises.{placing-gives, placing-accepted}
 use Rattle.walks.specs.Calls.{groundOf}
-use Rattle.walks.proofs.Theorem.{patch-sound}
+use Rattle.walks.specs.Lines.{walkLines}
+use Rattle.walks.proofs.Promises.{run-refused-leaves}
+use Rattle.walks.proofs.Theorem.{patch-sound, walk-passes, refused-full}
 use Rattle.report.specs.Sizes.{tableRows, tableWords, stepsMost}
 use Rattle.report.specs.Report.{noWalk, begunOf, walkOf}
 
@@ -81,3 +86,11 @@ module _ (l : List ℤ) (w : List ℕ) (accepted : testOf l w ≡ gives tt) wher
         let few = circuits-most l (patch-few l (shots-kept l .0 (test-accepts l w .0 accepted .0)) .1) in
         let most = mul-le-mul-left rowsMost few in
         run-ends (patch-sound l) w size begun-walked stepsMost (omega arith) e
+
+  module _ (words : Words wordCount w) where
+    pub walk-full : (m : ℕ) → walkOf l w .answer ≡ refuses m → m ≡ 11
+    unfolding walkOf
+    walk-full m e =
+        ⊎-elim (λ (f, _). first-clear m (walkLines l (begunOf l w .table) (begunOf l w .walk)) f (walk-passes l w words begun-walked))
+        (λ (_, (k, _, _, f, q)). refused-full l w words _ _ (subst (λ (x : Landing Reply). Walked (groundOf l) w (x .table) (x .walk)) q walk-walked) m f)
+        (run-refused-leaves l (begunOf l w .table) (begunOf l w .walk) stepsMost m e)

@@ -25,7 +25,7 @@ fn counted(answer: shots::Counted) {
 
 fn oriented(answer: shots::Oriented) {
     match answer {
-        shots::Oriented::Sign(s) => show::sign(s),
+        shots::Oriented::Area(x) => show::signed_field(b" area ", x),
         shots::Oriented::Refused(n) => show::refused(n),
     }
 }

@@ -24,26 +24,25 @@ pub fn refused(n: u8) {
     field(b" refused ", n as u64);
 }
 
-// How far a number is from 0.
-fn size(z: i32) -> u64 {
-    let x = z as i64;
-    if x < 0 { (0 - x) as u64 } else { x as u64 }
-}
-
-fn signed(z: i32) {
+fn signed(z: i64) {
     if z < 0 {
         text(b"-");
     }
-    number(size(z));
+    number(shots::plane::size_of(z));
 }
 
 fn unit(s: i8) {
-    signed(s as i32);
+    signed(s as i64);
 }
 
-pub fn sign(s: i8) {
-    text(b" sign ");
-    unit(s);
+fn coordinate(x: i32) {
+    signed(x as i64);
+}
+
+// A text and a number behind it that may be negative.
+pub fn signed_field(s: &[u8], z: i64) {
+    text(s);
+    signed(z);
 }
 
 pub fn list(t: Triples) {
@@ -95,7 +94,7 @@ pub fn coordinates(s: &[i32]) {
     let mut i = 0;
     while i < s.len() {
         before(i);
-        signed(s[i]);
+        coordinate(s[i]);
         i += 1;
     }
     behind(s.len());

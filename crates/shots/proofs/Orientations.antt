@@ -1,35 +1,47 @@
--- The orientation of three shots is the chirotope of their points, and alternates (document 01, "Shots and orientation").
+-- What `orientation` gives of three shots is their determinant, and its sign, which cocircuits, circuits, the placing surface and the test read, is their chirotope (document 01, "Shots and orientation";
+-- document 02, E6).
 --
---   orient-is-chirotope                          the sign of the determinant of the three points
---   orient-cycle, orient-swap, orient-swap-first     alternating
---   orient-repeated                              0 for a repeated shot
+--   area-is-volume, orient-is-chirotope          the determinant of the three points, and its sign
+--   area-cycle, area-swap, area-swap-first       alternating; `orient-cycle`, `orient-swap-first`: so is the sign
+--   area-repeated, orient-repeated               0 for a repeated shot
 --   right-is-left                                what lies right of a pair lies left of the pair turned
 --   between-says                                 of three shots on a line, which of them lies between the others
---   orientation-agrees                           what `orientation` gives is the chirotope, as -1, 0 or 1
+--   orientation-agrees                           what `orientation` gives is the determinant
+--   orientation-sign                             what the rooms above read is the sign of what `orientation` gives
+--   cocircuit-reads                              so are the signs that `cocircuit` gives
+--   orientation-swap, orientation-swap-first, orientation-swap-ends    two shots exchanged: the opposite number, or the same refusal
+--   orientation-repeated                         0 for shots not all different
+--   orientation-balance                          of four shots the areas balance
 --
 -- Border pairs: proofs/Borders; sides: proofs/Sides.
 use mathlib.Core.Path.{_≡_, refl, sym, _∙_, ap}
 use mathlib.Core.Logic.{_⊎_, inl, inr, _↔_}
-use mathlib.Core.Bool.{true}
-use mathlib.Core.List.{List, [], _∷_}
+use mathlib.Core.Bool.{Bool, true, false, _||_}
+use mathlib.Core.List.{List, [], _∷_, _++_}
 use Prim.Native.Nat.{ℕ, _<_}
-use lib.IntN.{ℤ, pos}
+use native.Mathlib.Omega.{arith}
+use borrow.Author.Tests.{lt-ltb}
+use lib.Dec.{leb}
+use lib.IntN.{ℤ, pos, negℤ, _+ℤ_}
+use lib.ListN.{getD}
 use Rattle.algebra.specs.Loops.{any}
 use Rattle.algebra.specs.Sign.{Sign, minus, nought, plus, signOf, opposite, value, isMinus, isPlus}
-use Rattle.algebra.specs.Answer.{Reflects, gives, Clear}
-use Rattle.algebra.proofs.AnswerLaws.{reflects-iff, reflects-yes, reflects-true, reflects-minus}
+use Rattle.algebra.specs.Answer.{Reflects, gives, onValue, Rule, chain, Clear}
+use Rattle.algebra.proofs.AnswerLaws.{on-value-chain, reflects-iff, reflects-yes, reflects-true, reflects-minus}
+use Rattle.algebra.proofs.LoopLaws.{getD-tabulate}
 use Rattle.algebra.proofs.SignLaws.{signOf-zero, zero-signOf, signOf-opposite}
-use Rattle.matroid.specs.Configurations.{chirotope}
+use Rattle.matroid.specs.Configurations.{volume, chirotope}
 use Rattle.matroid.specs.Points.{Between, dot}
-use Rattle.matroid.proofs.Turns.{turn-is-volume, turn-cycle, turn-swap, turn-swap-first, turn-first, turn-last, turn-ends}
+use Rattle.matroid.proofs.Turns.{turn-is-volume, turn-cycle, turn-swap, turn-swap-first, turn-first, turn-last, turn-ends, turn-balance}
 use Rattle.matroid.proofs.Lines.{between-iff}
+use Rattle.shots.specs.Sizes.{shotsMost}
 use Rattle.shots.specs.Coordinates.{pointOf, patchOf, areaOf}
 use Rattle.shots.specs.Patch.{countOf, orientOf, betweenOf, someLeft, someRight}
-use Rattle.shots.specs.Tests.{refusalOf}
+use Rattle.shots.specs.Tests.{shotRules, refusalOf}
 use Rattle.shots.specs.Lines.{orientationLines}
-use Rattle.shots.specs.Calls.{orientationOf}
-use Rattle.shots.proofs.Patch.{patch-differ}
-use Rattle.shots.proofs.Promises.{orientation-gives}
+use Rattle.shots.specs.Calls.{orientationOf, signAt, cocircuitOf}
+use Rattle.shots.proofs.Patch.{patch-few, patch-differ}
+use Rattle.shots.proofs.Promises.{orientation-gives, orientation-clear, cocircuit-gives, cocircuit-signs, shots-kept}
 
 minus-plus : (s : Sign) → isMinus s ≡ isPlus (opposite s)
 unfolding opposite
@@ -37,29 +49,64 @@ minus-plus minus = refl
 minus-plus nought = refl
 minus-plus plus = refl
 
+abbrev noShot : Bool → Rule
+noShot b = record { number = 7; broken = b }
+
+or-swap : (x y : Bool) → (x || y) ≡ (y || x)
+or-swap true true = refl
+or-swap true false = refl
+or-swap false true = refl
+or-swap false false = refl
+
+or-swap-first : (x y z : Bool) → (x || (y || z)) ≡ (y || (x || z))
+or-swap-first true true z = refl
+or-swap-first true false z = refl
+or-swap-first false true z = refl
+or-swap-first false false z = refl
+
 module _ (l : List ℤ) where
   module _ (a b c : ℕ) where
+    -- ---- the number
+
+    pub area-is-volume : areaOf l a b c ≡ volume (patchOf l) (a ∷ b ∷ c ∷ [])
+    unfolding areaOf
+    area-is-volume = turn-is-volume (pointOf l) a b c
+
+    pub area-cycle : areaOf l a b c ≡ areaOf l b c a
+    unfolding areaOf
+    area-cycle = turn-cycle (pointOf l a) (pointOf l b) (pointOf l c)
+
+    pub area-swap : areaOf l a c b ≡ negℤ (areaOf l a b c)
+    unfolding areaOf
+    area-swap = turn-swap (pointOf l a) (pointOf l b) (pointOf l c)
+
+    pub area-swap-first : areaOf l b a c ≡ negℤ (areaOf l a b c)
+    unfolding areaOf
+    area-swap-first = turn-swap-first (pointOf l a) (pointOf l b) (pointOf l c)
+
+    pub area-repeated : (a ≡ b) ⊎ ((b ≡ c) ⊎ (a ≡ c)) → areaOf l a b c ≡ pos 0
+    unfolding areaOf
+    area-repeated (inl e) = rw e (turn-first (pointOf l b) (pointOf l c))
+    area-repeated (inr (inl e)) = rw e (turn-last (pointOf l a) (pointOf l c))
+    area-repeated (inr (inr e)) = rw e (turn-ends (pointOf l c) (pointOf l b))
+
+    -- ---- its sign
+
     pub orient-is-chirotope : orientOf l a b c ≡ chirotope (patchOf l) (a ∷ b ∷ c ∷ [])
-    unfolding orientOf areaOf
-    orient-is-chirotope = ap signOf (turn-is-volume (pointOf l) a b c)
+    unfolding orientOf
+    orient-is-chirotope = ap signOf area-is-volume
 
     pub orient-cycle : orientOf l a b c ≡ orientOf l b c a
-    unfolding orientOf areaOf
-    orient-cycle = ap signOf (turn-cycle (pointOf l a) (pointOf l b) (pointOf l c))
-
-    pub orient-swap : orientOf l a c b ≡ opposite (orientOf l a b c)
-    unfolding orientOf areaOf
-    orient-swap = ap signOf (turn-swap (pointOf l a) (pointOf l b) (pointOf l c)) ∙ signOf-opposite (areaOf l a b c)
+    unfolding orientOf
+    orient-cycle = ap signOf area-cycle
 
     pub orient-swap-first : orientOf l b a c ≡ opposite (orientOf l a b c)
-    unfolding orientOf areaOf
-    orient-swap-first = ap signOf (turn-swap-first (pointOf l a) (pointOf l b) (pointOf l c)) ∙ signOf-opposite (areaOf l a b c)
+    unfolding orientOf
+    orient-swap-first = ap signOf area-swap-first ∙ signOf-opposite (areaOf l a b c)
 
     pub orient-repeated : (a ≡ b) ⊎ ((b ≡ c) ⊎ (a ≡ c)) → orientOf l a b c ≡ nought
-    unfolding orientOf areaOf
-    orient-repeated (inl e) = rw e (signOf-zero (areaOf l b b c) (turn-first (pointOf l b) (pointOf l c)))
-    orient-repeated (inr (inl e)) = rw e (signOf-zero (areaOf l a c c) (turn-last (pointOf l a) (pointOf l c)))
-    orient-repeated (inr (inr e)) = rw e (signOf-zero (areaOf l c b c) (turn-ends (pointOf l c) (pointOf l b)))
+    unfolding orientOf
+    orient-repeated e = signOf-zero (areaOf l a b c) (area-repeated e)
 
   pub right-is-left : (i j : ℕ) → someRight l i j ≡ someLeft l j i
   unfolding someRight someLeft
@@ -79,8 +126,56 @@ module _ (l : List ℤ) where
       decided : Reflects (Between (pointOf l m) (pointOf l a) (pointOf l b)) (betweenOf l m a b)
       decided = between-decided m a b (zero-signOf (areaOf l m a b) e) (patch-differ l h m b ml bl mb)
 
-  pub orientation-agrees : (a b c : ℕ) (v : ℤ) → (orientationOf l a b c ≡ gives v) ↔ (Clear (orientationLines l a b c) × (value (chirotope (patchOf l) (a ∷ b ∷ c ∷ [])) ≡ v))
+  -- ---- the call
+
+  -- what the call gives is the area
+  given : (a b c : ℕ) {v : ℤ} → orientationOf l a b c ≡ gives v → areaOf l a b c ≡ v
+  given a b c {v} e = orientation-gives l a b c v .0 e .1
+
+  pub orientation-agrees : (a b c : ℕ) (v : ℤ) → (orientationOf l a b c ≡ gives v) ↔ (Clear (orientationLines l a b c) × (volume (patchOf l) (a ∷ b ∷ c ∷ []) ≡ v))
   orientation-agrees a b c v =
-      let o = ap value (orient-is-chirotope a b c) in
+      let o = area-is-volume a b c in
       let g = orientation-gives l a b c v in
       (λ e. let (k, q) = g .0 e in (k, sym o ∙ q), λ (k, q). g .1 (k, o ∙ q))
+
+  pub orientation-sign : (a b c : ℕ) (v : ℤ) → orientationOf l a b c ≡ gives v → orientOf l a b c ≡ signOf v
+  unfolding orientOf
+  orientation-sign a b c v e = ap signOf (given a b c e)
+
+  pub cocircuit-reads : (i j k : ℕ) (v : ℤ) → cocircuitOf l i j .answer ≡ gives tt → orientationOf l i j k ≡ gives v → getD (cocircuitOf l i j .signs) k (pos 0) ≡ value (signOf v)
+  unfolding signAt
+  cocircuit-reads i j k v e o =
+      let clear = cocircuit-gives l i j tt .0 e .0 in
+      let (patch, shots) = orientation-clear l i j k .0 (orientation-gives l i j k v .0 o .0) in
+      let few = patch-few l (shots-kept l .0 patch) .1 in
+      ap (λ (s : List ℤ). getD s k (pos 0)) (cocircuit-signs l i j clear) ∙ getD-tabulate (signAt l i j) shotsMost k (pos 0) (omega (arith, few, shots .2))
+      ∙ rw (lt-ltb k (countOf l) (shots .2)) (ap value (orientation-sign i j k v o))
+
+  -- the opposite number behind rules that say the same
+  turned : {r s : Rule} {x : ℤ} (y : ℤ) → r ≡ s → x ≡ negℤ y → chain (shotRules l ++ r ∷ []) x ≡ onValue negℤ (chain (shotRules l ++ s ∷ []) y)
+  turned {r} {s} {x} y e o = (λ t. chain (shotRules l ++ e t ∷ []) (o t)) ∙ sym (on-value-chain negℤ (shotRules l ++ s ∷ []) y)
+
+  pub orientation-swap : (a b c : ℕ) → orientationOf l a c b ≡ onValue negℤ (orientationOf l a b c)
+  unfolding orientationOf
+  orientation-swap a b c = turned (areaOf l a b c) (ap noShot (ap (_||_ (leb (countOf l) a)) (or-swap (leb (countOf l) c) (leb (countOf l) b)))) (area-swap a b c)
+
+  pub orientation-swap-first : (a b c : ℕ) → orientationOf l b a c ≡ onValue negℤ (orientationOf l a b c)
+  unfolding orientationOf
+  orientation-swap-first a b c = turned (areaOf l a b c) (ap noShot (or-swap-first (leb (countOf l) b) (leb (countOf l) a) (leb (countOf l) c))) (area-swap-first a b c)
+
+  pub orientation-swap-ends : (a b c : ℕ) → orientationOf l c b a ≡ onValue negℤ (orientationOf l a b c)
+  unfolding orientationOf
+  orientation-swap-ends a b c =
+      let p : Bool = leb (countOf l) a in
+      let q : Bool = leb (countOf l) b in
+      let r : Bool = leb (countOf l) c in
+      turned (areaOf l a b c) (ap noShot (or-swap-first r q p ∙ ap (_||_ q) (or-swap r p) ∙ or-swap-first q p r)) (area-cycle c b a ∙ area-swap-first a b c)
+
+  pub orientation-repeated : (a b c : ℕ) → (a ≡ b) ⊎ ((b ≡ c) ⊎ (a ≡ c)) → (v : ℤ) → orientationOf l a b c ≡ gives v → v ≡ pos 0
+  orientation-repeated a b c h v e = sym (given a b c e) ∙ area-repeated a b c h
+
+  pub orientation-balance : (a b c d : ℕ) {abc acd abd bcd : ℤ} → orientationOf l a b c ≡ gives abc → orientationOf l a c d ≡ gives acd → orientationOf l a b d ≡ gives abd → orientationOf l b c d ≡ gives bcd
+      → abc +ℤ acd ≡ abd +ℤ bcd
+  unfolding areaOf
+  orientation-balance a b c d e f g h =
+      (λ t. sym (given a b c e) t +ℤ sym (given a c d f) t) ∙ turn-balance (pointOf l) a b c d ∙ (λ t. given a b d g t +ℤ given b c d h t)

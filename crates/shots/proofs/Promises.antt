@@ -5,22 +5,25 @@
 --   shots-kept                                               no line of the shots holds exactly when the number that refuses the run is 0
 --   accept-refuses, orientation-refuses, double-area-refuses, cocircuit-refuses, border-refuses
 --   accept-gives, orientation-gives, double-area-gives, cocircuit-gives, border-gives
+--   orientation-clear                                        no line holds exactly for three shots of an accepted patch
+--   double-area-chain                                        the size of what a chain gives is given by that chain
 --   cocircuit-signs, cocircuit-refused                       the array beside the answer
 --   accept-one, orientation-one, double-area-one, cocircuit-one, border-one    two permitted answers are the same
 --   counted-one                                              what is read as one count is one answer
-use mathlib.Core.Path.{_≡_, refl, ap}
-use mathlib.Core.Logic.{_⊎_, _↔_}
+use mathlib.Core.Path.{_≡_, refl, sym, _∙_, ap}
+use mathlib.Core.Logic.{_⊎_, inl, inr, ⊎-elim, _↔_}
 use mathlib.Core.List.{List, [], _∷_, _++_}
-use Prim.Native.Nat.{ℕ}
+use Prim.Native.Nat.{ℕ, _<_}
+use native.Mathlib.Omega.{arith}
+use native.Mathlib.Decide.{decLt}
 use lib.ListN.{replicate}
 use lib.IntN.{ℤ, pos, natAbs}
-use Rattle.algebra.specs.Answer.{Answer, gives, refuses, First, Clear, Decides}
+use Rattle.algebra.specs.Answer.{Answer, gives, refuses, chain, First, Clear, Decides}
 use Rattle.algebra.specs.Loops.{tabulate, tally}
-use Rattle.algebra.specs.Sign.{value}
-use Rattle.algebra.proofs.AnswerLaws.{chain-refuses, chain-gives, clear-refusal, one-answer, decides-append, reflects-or, reflects-leb}
+use Rattle.algebra.proofs.AnswerLaws.{chain-refuses, chain-gives, on-value-chain, clear-refusal, clear-append, one-answer, decides-append, reflects-or, reflects-leb}
 use Rattle.shots.specs.Sizes.{shotsMost}
 use Rattle.shots.specs.Coordinates.{areaOf}
-use Rattle.shots.specs.Patch.{countOf, orientOf}
+use Rattle.shots.specs.Patch.{countOf}
 use Rattle.shots.specs.Tests.{shotRules, refusalOf}
 use Rattle.shots.specs.Lines.{NotShot, NotPair, shotLines, orientationLines, cocircuitLines}
 use Rattle.shots.specs.Calls.{readAccepted, readOriented, readMeasured, readCounted, Cocircuit, readSigns, acceptOf, shotsRule, orientationOf, doubleAreaOf, pairRule, signAt, signsWith, cocircuitOf, sidesOf, borderCallOf}
@@ -68,19 +71,43 @@ module _ (l : List ℤ) where
   unfolding orientationOf
   orientation-refuses a b c n = chain-refuses _ (orientationLines l a b c) _ n (orientation-decided a b c)
 
-  pub orientation-gives : (a b c : ℕ) (v : ℤ) → (orientationOf l a b c ≡ gives v) ↔ (Clear (orientationLines l a b c) × (value (orientOf l a b c) ≡ v))
+  pub orientation-gives : (a b c : ℕ) (v : ℤ) → (orientationOf l a b c ≡ gives v) ↔ (Clear (orientationLines l a b c) × (areaOf l a b c ≡ v))
   unfolding orientationOf
   orientation-gives a b c v = chain-gives _ (orientationLines l a b c) _ v (orientation-decided a b c)
 
+  -- it gives the area of any three shots of an accepted patch, and of those alone
+  pub orientation-clear : (a b c : ℕ) → Clear (orientationLines l a b c) ↔ (Clear (shotLines l) × ((a < countOf l) × (b < countOf l) × (c < countOf l)))
+  orientation-clear a b c = (out, λ (k, (p, q, r)). joined .1 (k, (⊎-elim (λ h. omega arith) (⊎-elim (λ h. omega arith) (λ h. omega arith)), tt)))
+    where
+      joined : Clear (orientationLines l a b c) ↔ (Clear (shotLines l) × Clear (record { number = 7; when = NotShot l a ⊎ (NotShot l b ⊎ NotShot l c) } ∷ []))
+      joined = clear-append (shotLines l) (record { number = 7; when = NotShot l a ⊎ (NotShot l b ⊎ NotShot l c) } ∷ [])
+
+      below : (i : ℕ) → (NotShot l i → ⊥) → Dec (i < countOf l) → i < countOf l
+      below i h (yes k) = k
+      below i h (no k) = absurd (h (omega arith))
+
+      out : Clear (orientationLines l a b c) → Clear (shotLines l) × ((a < countOf l) × (b < countOf l) × (c < countOf l))
+      out h =
+          let (k, s) = joined .0 h in
+          (k, (below a (λ x. s .0 (inl x)) (decLt a (countOf l)), below b (λ x. s .0 (inr (inl x))) (decLt b (countOf l)), below c (λ x. s .0 (inr (inr x))) (decLt c (countOf l))))
+
   -- ---- double area
 
+  pub double-area-chain : (a b c : ℕ) → doubleAreaOf l a b c ≡ chain (shotRules l ++ shotsRule l a b c ∷ []) (natAbs (areaOf l a b c))
+  unfolding doubleAreaOf orientationOf
+  double-area-chain a b c = on-value-chain natAbs (shotRules l ++ shotsRule l a b c ∷ []) (areaOf l a b c)
+
   pub double-area-refuses : (a b c n : ℕ) → (doubleAreaOf l a b c ≡ refuses n) ↔ First n (orientationLines l a b c)
-  unfolding doubleAreaOf
-  double-area-refuses a b c n = chain-refuses _ (orientationLines l a b c) _ n (orientation-decided a b c)
+  double-area-refuses a b c n =
+      let s = double-area-chain a b c in
+      let k = chain-refuses _ (orientationLines l a b c) (natAbs (areaOf l a b c)) n (orientation-decided a b c) in
+      (λ e. k .0 (sym s ∙ e), λ f. s ∙ k .1 f)
 
   pub double-area-gives : (a b c v : ℕ) → (doubleAreaOf l a b c ≡ gives v) ↔ (Clear (orientationLines l a b c) × (natAbs (areaOf l a b c) ≡ v))
-  unfolding doubleAreaOf
-  double-area-gives a b c v = chain-gives _ (orientationLines l a b c) _ v (orientation-decided a b c)
+  double-area-gives a b c v =
+      let s = double-area-chain a b c in
+      let k = chain-gives _ (orientationLines l a b c) (natAbs (areaOf l a b c)) v (orientation-decided a b c) in
+      (λ e. k .0 (sym s ∙ e), λ f. s ∙ k .1 f)
 
   -- ---- cocircuit
 
@@ -125,11 +152,11 @@ accepted-back A.Accepted = refl
 accepted-back (A.Refused n) = refl
 
 abbrev orientedAs : Answer ℤ → Oriented
-orientedAs (gives s) = O.Sign s
+orientedAs (gives x) = O.Area x
 orientedAs (refuses n) = O.Refused n
 
 oriented-back : (r : Oriented) → orientedAs (readOriented r) ≡ r
-oriented-back (O.Sign s) = refl
+oriented-back (O.Area x) = refl
 oriented-back (O.Refused n) = refl
 
 abbrev measuredAs : Answer ℕ → Measured

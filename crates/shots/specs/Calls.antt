@@ -3,23 +3,23 @@
 --   readAccepted, readOriented, readMeasured, readCounted, readSigns
 --                        the refusal number or the value of each case of a call's answer
 --   acceptOf l           accepted, or 1 2 3 4
---   orientationOf l a b c   -1, 0 or 1; or 1-4, 7
---   doubleAreaOf l a b c    the size of the signed double area; or 1-4, 7
+--   orientationOf l a b c   the double area of three shots, with its sign; or 1-4, 7
+--   doubleAreaOf l a b c    the size of what `orientation` gives; or its refusal
 --   Cocircuit            the answer of `cocircuit`, and the places of the array beside it
---   cocircuitOf l i j    the orientation of (i, j, k) at each shot k and 0 past them; or 1-4, 7, and 0 everywhere
+--   cocircuitOf l i j    the sign of (i, j, k) at each shot k and 0 past them; or 1-4, 7, and 0 everywhere
 --   borderCallOf l       the number of sides; or 1-4
 --   shotsRule l a b c, pairRule l i j    7: one of three numbers is not a shot; not a pair i < j of shots
 --   signAt l i j k, signsWith a s        the sign of place k in the cocircuit of i, j; the array that goes with an answer
 --   sidesOf l j          how many i < j make a side with j
 --
--- Source: document 01, "Shots and orientation"; document 02, E1.
+-- Source: document 01, "Shots and orientation"; document 02, E1, E6.
 use mathlib.Core.Bool.{cond, _||_}
 use mathlib.Core.List.{List, [], _∷_, _++_}
 use Prim.Native.Nat.{ℕ}
 use lib.Dec.{leb, ltb}
 use lib.ListN.{replicate}
 use lib.IntN.{ℤ, pos, natAbs}
-use Rattle.algebra.specs.Answer.{Answer, gives, refuses, Rule, chain}
+use Rattle.algebra.specs.Answer.{Answer, gives, refuses, onValue, Rule, chain}
 use Rattle.algebra.specs.Loops.{tabulate, tally}
 use Rattle.algebra.specs.Sign.{value}
 use Rattle.shots.specs.Sizes.{shotsMost}
@@ -43,7 +43,7 @@ readAccepted A.Accepted = gives tt
 readAccepted (A.Refused n) = refuses n
 
 abbrev pub readOriented : Oriented → Answer ℤ
-readOriented (O.Sign s) = gives s
+readOriented (O.Area x) = gives x
 readOriented (O.Refused n) = refuses n
 
 abbrev pub readMeasured : Measured → Answer ℕ
@@ -72,10 +72,10 @@ abbrev pub shotsRule : List ℤ → ℕ → ℕ → ℕ → Rule
 shotsRule l a b c = record { number = 7; broken = leb (countOf l) a || (leb (countOf l) b || leb (countOf l) c) }
 
 unfoldable pub orientationOf : List ℤ → ℕ → ℕ → ℕ → Answer ℤ
-orientationOf l a b c = chain (shotRules l ++ shotsRule l a b c ∷ []) (value (orientOf l a b c))
+orientationOf l a b c = chain (shotRules l ++ shotsRule l a b c ∷ []) (areaOf l a b c)
 
 unfoldable pub doubleAreaOf : List ℤ → ℕ → ℕ → ℕ → Answer ℕ
-doubleAreaOf l a b c = chain (shotRules l ++ shotsRule l a b c ∷ []) (natAbs (areaOf l a b c))
+doubleAreaOf l a b c = onValue natAbs (orientationOf l a b c)
 
 -- 7: not a pair i < j of shots
 abbrev pub pairRule : List ℤ → ℕ → ℕ → Rule

@@ -3,9 +3,9 @@
 --   xOf l i, yOf l i   the coordinates of shot i, 0 past the end
 --   pointOf l i        shot i as a point of the plane
 --   patchOf l          the patch as a configuration, over which the published definitions are read
---   areaOf l a b c     the double area of three shots, with its sign
+--   areaOf l a b c     the double area of three shots, with its sign: what the call `orientation` gives of an accepted patch
 --
--- Source: document 01, "Shots and orientation".
+-- Source: document 01, "Shots and orientation"; document 02, E6.
 use mathlib.Core.List.{List}
 use Prim.Native.Nat.{ℕ, _+_, _*_}
 use lib.ListN.{getD}

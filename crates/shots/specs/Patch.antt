@@ -1,8 +1,8 @@
--- What the tests, circuits and surfaces above this room are computed from: how many shots a patch has, the orientation of three, which of three on a line is
+-- What the tests, circuits and surfaces above this room are computed from: how many shots a patch has, the sign of what `orientation` gives of three, which of three on a line is
 -- between the others, and which pairs are border pairs; and which are sides, for `border` and the report. Beside it, sums of areas read `areaOf`, the published statements `patchOf` (specs/Coordinates), and records the run itself.
 --
 --   countOf l          the number of shots of the run l
---   orientOf l a b c   the orientation of three shots: the sign of their double area
+--   orientOf l a b c   the sign of the double area of three shots: the orientation of source 001
 --   betweenOf l m a b  of three shots on a line, m lies strictly between a and b
 --   someLeft, someRight    some shot has the sign plus, minus in the cocircuit of a pair
 --   borderOf l i j     the cocircuit of the pair has no two opposite signs

@@ -1,9 +1,9 @@
 // Shots: one lent run of coordinates, whole millimetres, x then y of each shot. Above this room they are only written to a record and read from one.
 //
 //   accept         is the run a patch?                                     1 2 3 4
-//   orientation    the sign of three shots, -1, 0 or 1                     1-4, 7
-//   double_area    the size of their double area                           1-4, 7
-//   cocircuit      the orientation of a pair with every shot               1-4, 7
+//   orientation    the double area of three shots, with its sign           1-4, 7
+//   double_area    its size                                                1-4, 7
+//   cocircuit      its sign, for a pair with every shot                    1-4, 7
 //   border         the number of sides                                     1-4
 //
 // Every call takes every input; specs/Calls.antt says what it answers, specs/Lines.antt when it refuses.
@@ -29,8 +29,9 @@ pub enum Accepted {
     Refused(u8),
 }
 
+// Positive where the turn is counterclockwise.
 pub enum Oriented {
-    Sign(i8),
+    Area(i64),
     Refused(u8),
 }
 
@@ -70,20 +71,17 @@ pub fn orientation(shots: &[i32], a: usize, b: usize, c: usize) -> Oriented
     if tests::no_shot(shots.len() / 2, a, b, c) {
         return Oriented::Refused(7);
     }
-    Oriented::Sign(plane::sign(shots, a, b, c))
+    let area = plane::area(shots, a, b, c);
+    Oriented::Area(area)
 }
 
 pub fn double_area(shots: &[i32], a: usize, b: usize, c: usize) -> Measured
     ensures { λ r. ⌜ readMeasured r ≡ doubleAreaOf (now (shots .entry)) a b c ⌝ }
 {
-    let refusal = tests::refusal(shots);
-    if refusal != 0 {
-        return Measured::Refused(refusal);
+    match orientation(shots, a, b, c) {
+        Oriented::Refused(number) => Measured::Refused(number),
+        Oriented::Area(signed) => Measured::Area(plane::size_of(signed)),
     }
-    if tests::no_shot(shots.len() / 2, a, b, c) {
-        return Measured::Refused(7);
-    }
-    Measured::Area(plane::size(shots, a, b, c))
 }
 
 pub fn cocircuit(shots: &[i32], i: usize, j: usize) -> Signs

@@ -1,4 +1,4 @@
-// Areas and signs of shots that are known to be there and near. The signed double area is the core; signs are taken above it.
+// Areas and signs of shots that are known to be there and near. The double area with its sign, what the call `orientation` gives, is the core: every sign and every size is taken of it.
 ghost use mathlib.Core.Path.{_≡_};
 ghost use Prim.Native.Nat.{_*_, _≤_, _<_};
 ghost use lib.ListN.{length, getD};
@@ -50,6 +50,7 @@ pub fn area(shots: &[i32], a: usize, b: usize, c: usize) -> i64
     cross(bax, cay, bay, cax)
 }
 
+// -1, 0 or 1.
 fn sign_of(x: i64) -> i8
     ensures { λ r. ⌜ r ≡ value (signOf x) ⌝ }
 {
@@ -62,7 +63,7 @@ fn sign_of(x: i64) -> i8
     0
 }
 
-// The orientation of three shots: -1, 0 or 1.
+// The sign of the double area of three shots.
 pub fn sign(shots: &[i32], a: usize, b: usize, c: usize) -> i8
     requires { ⌜ (a < countOf (now shots)) × (b < countOf (now shots)) × (c < countOf (now shots)) × Near (now shots) ⌝ }
     ensures { λ r. ⌜ r ≡ value (orientOf (now (shots .entry)) a b c) ⌝ }
@@ -70,12 +71,11 @@ pub fn sign(shots: &[i32], a: usize, b: usize, c: usize) -> i8
     sign_of(area(shots, a, b, c))
 }
 
-// The size of a double area.
-fn size_of(x: i64) -> u64
-    requires { ⌜ natAbs x ≤ 8 * farthest * farthest ⌝ }
+// How far a number is from 0, the least one too.
+pub fn size_of(x: i64) -> u64
     ensures { λ r. ⌜ r ≡ natAbs x ⌝ }
 {
-    if x < 0 { (0 - x) as u64 } else { x as u64 }
+    if x < 0 { (-1 - x) as u64 + 1 } else { x as u64 }
 }
 
 pub fn size(shots: &[i32], a: usize, b: usize, c: usize) -> u64

@@ -19,9 +19,9 @@ use Rattle.algebra.specs.Loops.{tally, sumOf, anyOf}
 use Rattle.algebra.specs.Sets.{On, sameList, union, dropped, Within, setsOf}
 use Rattle.algebra.specs.Sign.{Sign, minus, nought, plus, opposite, Side}
 use Rattle.algebra.specs.Words.{wordBits, Words, member}
-use Rattle.algebra.proofs.AnswerLaws.{reflects-yes, reflects-true, reflects-false, reflects-iff, reflects-agree}
+use Rattle.algebra.proofs.AnswerLaws.{reflects-yes, reflects-true, reflects-iff, reflects-agree}
 use Rattle.algebra.proofs.ListLaws.{Apart, apart-append, Other, apart-map, kept, kept-in, kept-out, kept-apart}
-use Rattle.algebra.proofs.LoopLaws.{reflects-anyOf, sum-map, sum-append, sum-same, reflects-test, tally-same, tally-add, tally-zero, tally-single}
+use Rattle.algebra.proofs.LoopLaws.{reflects-anyOf, sum-map, sum-append, sum-same, reflects-test, tally-same, tally-add}
 use Rattle.algebra.proofs.SetTests.{reflects-same, mem-on, on-low, numbers-apart, mem-sets, sets-apart, union-within, dropped-within}
 use Rattle.algebra.proofs.WordLaws.{member-sift}
 use Rattle.matroid.specs.Flips.{Supports, Flipped}
@@ -37,50 +37,18 @@ use Rattle.circuits.proofs.Agreement.{circuit-published}
 use Rattle.triples.specs.Sizes.{wordCount}
 use Rattle.lists.specs.Lines.{Listed, Accepted}
 use Rattle.lists.proofs.Agreement.{listed-at}
-use Rattle.triples.specs.Ranks.{tripleCount, tripleAt, rankOf}
-use Rattle.triples.proofs.RankLaws.{rank-of-triple, triple-of-rank, triples-few}
+use Rattle.triples.specs.Ranks.{tripleCount, tripleAt}
+use Rattle.triples.proofs.RankLaws.{triples-few}
 use Rattle.algebra.proofs.SignLaws.{nought-side}
 use Rattle.surfaces.specs.Areas.{tripleAreaOf, areaSumOf}
 use Rattle.surfaces.specs.Flips.{supportOf, piecesOf, completions, completes, joins, exchanged, flippedOf}
 use Rattle.surfaces.specs.Calls.{flipOf}
 use Rattle.algebra.proofs.UnionLaws.{set-known, on-either, on-without, union-apart, dropped-length}
+use Rattle.surfaces.proofs.AreaSums.{Triple, pick-sum}
 use Rattle.surfaces.proofs.Agreement.{sideOf, swapped, Proper, side-within, side-inside, support-within, on-support, piece-published}
 use Rattle.surfaces.proofs.Agreement.{numbered, Joining, joins-decided, link-published, supports-published, star-published}
 use Rattle.surfaces.proofs.Promises.{flip-gives, flip-published, flip-words, put-in-new-here}
 use Rattle.surfaces.proofs.Balance.{cone-balanced}
-
--- ---- lists of distinct triples
-
-abbrev Triple : ℕ → List ℕ → Type 0
-Triple n t = Within 0 t n × (length t ≡ 3)
-
-module _ (n : ℕ) (f : List ℕ → ℕ) where
-  -- the triple t alone
-  pick-one : (t : List ℕ) → Triple n t → tally (tripleCount n) (λ r. cond (sameList (tripleAt n r) t) (f (tripleAt n r)) 0) ≡ f t
-  pick-one t (w, e) =
-      let (l, q) = triple-of-rank n t w e in
-      tally-single (λ r. cond (sameList (tripleAt n r) t) (f (tripleAt n r)) 0) (tripleCount n) (rankOf n t) l
-      (λ r k ne. ap (λ (b : Bool). cond b (f (tripleAt n r)) 0) (reflects-false (reflects-same (tripleAt n r) t) (λ u. ne (sym (rank-of-triple n r k) ∙ ap (rankOf n) u))))
-      ∙ ap (λ (b : Bool). cond b (f (tripleAt n (rankOf n t))) 0) (reflects-true (reflects-same (tripleAt n (rankOf n t)) t) q) ∙ ap f q
-
-  pick-sum : (ts : List (List ℕ)) → ((t : List ℕ) → List·Memᴰ t ts → Triple n t) → Apart Other ts → tally (tripleCount n) (λ r. cond (anyOf (sameList (tripleAt n r)) ts) (f (tripleAt n r)) 0) ≡ sumOf f ts
-  unfolding anyOf
-  pick-sum [] h p = tally-zero (λ r. cond false (f (tripleAt n r)) 0) (tripleCount n) (λ i l. refl)
-  pick-sum (t ∷ ts) h p =
-      tally-same _ _ (tripleCount n) (λ r l. parts r (sameList (tripleAt n r) t) (anyOf (sameList (tripleAt n r)) ts) (reflects-same (tripleAt n r) t) (found r))
-      ∙ tally-add (λ r. cond (sameList (tripleAt n r) t) (f (tripleAt n r)) 0) (λ r. cond (anyOf (sameList (tripleAt n r)) ts) (f (tripleAt n r)) 0) (tripleCount n)
-      ∙ (λ k. pick-one t (h t (List·Memᴰ·head refl)) k + pick-sum ts (λ s m. h s (List·Memᴰ·tail m)) (p .1) k)
-    where
-      found : (r : ℕ) → Reflects ((s : List ℕ) × List·Memᴰ s ts × (tripleAt n r ≡ s)) (anyOf (sameList (tripleAt n r)) ts)
-      found r = reflects-anyOf (λ s. tripleAt n r ≡ s) (sameList (tripleAt n r)) ts (λ s m. reflects-same (tripleAt n r) s)
-
-      -- not both
-      parts : (r : ℕ) (a b : Bool) → Reflects (tripleAt n r ≡ t) a → Reflects ((s : List ℕ) × List·Memᴰ s ts × (tripleAt n r ≡ s)) b
-          → cond (a || b) (f (tripleAt n r)) 0 ≡ cond a (f (tripleAt n r)) 0 + cond b (f (tripleAt n r)) 0
-      parts r true true u v = let (s, m, e) = reflects-yes v refl in absurd (p .0 s m (sym (reflects-yes u refl) ∙ e))
-      parts r true false u v = omega arith
-      parts r false true u v = omega arith
-      parts r false false u v = refl
 
 -- ---- the cones over some pieces
 

@@ -1,14 +1,13 @@
 -- The exchange along a circuit keeps the sum of the double areas, one cone at a time: the pieces of the plus side and those of the minus side, each joined
 -- with the same further shots to a triple. It is matroid's `circuit-balanced`, read for the plane.
 --
---   size-volume        the double area of a triple is the size of its volume
 --   cone-balanced      the pieces of the two sides of a circuit, joined with c, have the same sum of double areas
 --
 -- Source: document 01, "Flips", "The square with its centre".
 use mathlib.Core.Path.{_≡_, refl, sym, _∙_, ap, subst}
 use mathlib.Core.Logic.{inl, inr, ⊎-elim}
 use mathlib.Core.Bool.{Bool, true, false, cond}
-use mathlib.Core.List.{List, [], _∷_}
+use mathlib.Core.List.{List}
 use Prim.Native.Nat.{ℕ, _+_, _<_}
 use native.Mathlib.Omega.{arith}
 use lib.ListN.{length}
@@ -22,9 +21,8 @@ use Rattle.algebra.proofs.SetLaws.{sum-within}
 use Rattle.algebra.proofs.SetTests.{reflects-on, union-within, dropped-within}
 use Rattle.algebra.proofs.UnionLaws.{set-known, on-either, on-without, union-apart, dropped-length}
 use Rattle.matroid.specs.Configurations.{volume}
-use Rattle.matroid.proofs.Turns.{turn-is-volume}
 use Rattle.matroid.proofs.Balance.{sideVolume, circuit-balanced}
-use Rattle.shots.specs.Coordinates.{pointOf, patchOf, areaOf}
+use Rattle.shots.specs.Coordinates.{patchOf}
 use Rattle.shots.specs.Patch.{countOf}
 use Rattle.shots.specs.Tests.{refusalOf}
 use Rattle.circuits.specs.Sides.{TwoSides, signIn}
@@ -33,19 +31,12 @@ use Rattle.circuits.specs.Calls.{circuitAt}
 use Rattle.circuits.proofs.Agreement.{circuit-published}
 use Rattle.surfaces.specs.Areas.{tripleAreaOf}
 use Rattle.surfaces.specs.Flips.{supportOf, piecesOf}
+use Rattle.surfaces.proofs.AreaSums.{size-volume}
 use Rattle.surfaces.proofs.Agreement.{Proper, sideOf, side-sign, side-within, side-inside, support-within, on-support, numbered}
 
 module _ (l : List ℤ) where
   abbrev n : ℕ
   n = countOf l
-
-  size-volume : (t : List ℕ) → length t ≡ 3 → tripleAreaOf l t ≡ natAbs (volume (patchOf l) t)
-  unfolding tripleAreaOf areaOf
-  size-volume [] e = absurd (omega arith)
-  size-volume (i ∷ []) e = absurd (omega arith)
-  size-volume (i ∷ j ∷ []) e = absurd (omega arith)
-  size-volume (i ∷ j ∷ k ∷ []) e = ap natAbs (turn-is-volume (pointOf l) i j k)
-  size-volume (i ∷ j ∷ k ∷ h ∷ t) e = absurd (omega arith)
 
   module _ (ok : refusalOf l ≡ 0) (z : ℕ) (zl : z < length (circuitsOf l)) (c : List ℕ) (v : Within 0 c n) (four : length (supportOf n (circuitAt l z)) + length c ≡ 4)
       (off : (i : ℕ) → On (supportOf n (circuitAt l z)) i → On c i → ⊥) where
@@ -73,7 +64,7 @@ module _ (l : List ℤ) where
 
     cone-size : (i : ℕ) → On S i → tripleAreaOf l (union n (dropped n i S) c) ≡ natAbs (volume (patchOf l) (dropped n i T))
     cone-size i o =
-        size-volume (union n (dropped n i S) c) (let x = union-apart n (dropped n i S) c (dropped-within n i S) v (λ j p q. off j (on-without n i S (support-within proper) j .0 p .0) q) in
+        size-volume l (union n (dropped n i S) c) (let x = union-apart n (dropped n i S) c (dropped-within n i S) v (λ j p q. off j (on-without n i S (support-within proper) j .0 p .0) q) in
         let y = dropped-length n i S (support-within proper) o in omega (arith, four))
         ∙ ap (λ (s : List ℕ). natAbs (volume (patchOf l) s)) (sym (cone i o))
 

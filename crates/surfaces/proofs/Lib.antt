@@ -5,6 +5,7 @@ pub mod PlacedLists
 pub mod PlacedShots
 pub mod PlacedAccepted
 pub mod Promises
+pub mod AreaSums
 pub mod Balance
 pub mod AreaKept
 pub mod StarLaws

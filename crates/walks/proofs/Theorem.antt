@@ -4,24 +4,28 @@
 --   flip-is-published    of an accepted list the flips along the patch's numbered circuits are the published flips, along any published circuit
 --   reach-published      so what is reached by the one is what is reached by the other
 --   reach-bare           and by published flips of whose results nothing is asked
+--   walk-passes          a table and a record that an accepted start and its walk's steps and runs have written pass the first tests of a step
+--   refused-full         and where a step over them is refused, it is for want of a row: 11
 --   walk-surfaces        a table and a record that an accepted start and its walk's steps and runs have written: the demand's conclusions
 --   walk-whole           where its walk is done, its rows are what flips reach of whose results nothing is asked
 --   demand-3             the same of what the calls left: an accepted `start`, and then `step` and `run`
 --
 -- For any flip: reach/proofs/Theorem. Source: demand 3; document 01, "The walk".
 use mathlib.Core.Path.{_≡_, refl, sym, _∙_, ap, subst}
-use mathlib.Core.Logic.{⊎-elim, _↔_}
-use mathlib.Core.List.{List}
-use Prim.Native.Nat.{ℕ, _*_, _<_}
+use mathlib.Core.Logic.{inl, inr, ⊎-elim, _↔_}
+use mathlib.Core.List.{List, [], _∷_, _++_}
+use Prim.Native.Nat.{ℕ, _*_, _/_, _<_, _≤_}
 use native.Mathlib.Omega.{arith}
 use lib.ListN.{length}
 use lib.IntN.{ℤ}
-use Rattle.algebra.specs.Answer.{gives, Clear}
+use Rattle.algebra.specs.Answer.{gives, Line, First, Clear}
 use Rattle.algebra.specs.Words.{Words, rowOf}
-use Rattle.reach.specs.Walks.{WalkRecord, Begun, started, Reply, Landing, leaves, startOf}
+use Rattle.algebra.proofs.AnswerLaws.{first-clear, first-append, clear-append}
+use Rattle.reach.specs.Walks.{WalkRecord, Begun, started, Reply, Landing, leaves, capacityOf, startOf}
+use Rattle.reach.specs.Lines.{during, Impossible, Ahead, Flips, New, Full}
 use Rattle.reach.specs.Reach.{Reach, Along, Stands}
 use Rattle.reach.specs.Walked.{FlipsTo, Sound, Walked, starts, steps, runs, moves, Listing, Ends}
-use Rattle.reach.proofs.ReachLaws.{reach-as, tried-all}
+use Rattle.reach.proofs.ReachLaws.{reach-as, tried-row, tried-all}
 use Rattle.reach.proofs.Theorem.{walk-tested, walked-run, walk-listing, row-kept, walk-ends, lastOf, ends-from-start}
 use Rattle.shots.specs.Patch.{countOf}
 use Rattle.shots.specs.Tests.{refusalOf}
@@ -35,10 +39,12 @@ use Rattle.triples.specs.declared.Triples.{Triples}
 use Rattle.shots.proofs.Promises.{shots-kept}
 use Rattle.lists.proofs.Promises.{test-accepts}
 use Rattle.surfaces.specs.Areas.{areaSumOf}
-use Rattle.lists.specs.Lines.{Accepted}
+use Rattle.lists.specs.Lines.{listLines, Accepted}
+use Rattle.lists.proofs.Agreement.{accepted-iff-triangulation}
 use Rattle.surfaces.proofs.Promises.{flip-accepted, flip-published, flip-any, flip-words}
 use Rattle.surfaces.proofs.AreaKept.{flip-keeps-area}
 use Rattle.walks.specs.Calls.{groundOf, readWalk, walkAs, startLanding, startCallOf}
+use Rattle.walks.specs.Lines.{linesOf, walkLines, stepLines}
 use Rattle.walks.specs.Surfaces.{PublishedFlip, Reachable}
 use Rattle.walks.specs.Reached.{BareFlip, BareReach}
 use Rattle.walks.specs.Demand.{Later, at-once, by-step, by-run, moved, StepsMade, StepDone, NoStepRefused, HoldsAll, Demand-3}
@@ -103,6 +109,13 @@ module _ (l : List ℤ) (c : Clear (shotLines l)) where
 
 -- ---- what a walk has written
 
+-- of lines that hold only where A does, with all but the last then ruled out, it is the last
+last-during : {A : Type 0} (m : ℕ) (ls : List Line) (x : Line) → (A → Clear ls) → First m (during A (ls ++ x ∷ [])) → m ≡ x .number
+last-during m [] x c (inl p) = p .1
+last-during m [] x c (inr p) = absurd (p .1)
+last-during m (y ∷ ls) x c (inl p) = absurd (c (p .0 .0) .0 (p .0 .1))
+last-during m (y ∷ ls) x c (inr p) = last-during m ls x (λ a. c a .1) (p .1)
+
 module _ (l : List ℤ) (w₀ : List ℕ) (v₀ : Words wordCount w₀) where
   abbrev WalkedTo : List ℕ → Walk → Type 0
   WalkedTo u v = Walked (groundOf l) w₀ u (readWalk v)
@@ -117,6 +130,41 @@ module _ (l : List ℤ) (w₀ : List ℕ) (v₀ : Words wordCount w₀) where
   -- at the end it holds all that is reached
   all-held : {u : List ℕ} {w : WalkRecord} → Walked (groundOf l) w₀ u w → w .step ≡ w .rows * length (circuitsOf l) → (w′ : List ℕ) → Stands wordCount u (w .rows) w′ ↔ Reachable l w₀ w′
   all-held h e w′ = let s = walk-listing (patch-sound l) w₀ (v₀ .0) h .whole e w′ in let q = reach-listed h w′ in (λ x. q .0 (s .0 x), λ x. s .1 (q .1 x))
+
+  -- each row is accepted, and has the first row's area
+  rows-kept : {u : List ℕ} {w : WalkRecord} → Walked (groundOf l) w₀ u w → (p : ℕ) → p < w .rows
+      → Accepted l (rowOf wordCount u p) × Words wordCount (rowOf wordCount u p) × (areaSumOf l (rowOf wordCount u p) ≡ areaSumOf l w₀)
+  rows-kept h = row-kept (patch-sound l) w₀ (v₀ .0) h (λ w. Accepted l w × Words wordCount w × (areaSumOf l w ≡ areaSumOf l w₀))
+      (λ w w′ z _ (a, x, q) m e. (flip-accepted l w w′ z (x .0) e, flip-words l w w′ z (x .0) e, flip-keeps-area l w w′ z x e ∙ q)) (first-row h .1, v₀, refl)
+
+  -- where it is refused
+  pub walk-passes : {u : List ℕ} {w : WalkRecord} → Walked (groundOf l) w₀ u w → Clear (walkLines l u w)
+  walk-passes {u} {w} h = clear-append (shotLines l) (record { number = 15; when = Impossible (groundOf l) u w } ∷ []) .1 (first-row h .0, (possible, tt))
+    where
+      facts : (0 < w .rows) × (w .rows ≤ capacityOf wordCount (length u)) × (w .step ≤ w .rows * length (circuitsOf l))
+      facts = walk-listing (patch-sound l) w₀ (v₀ .0) h .possible
+
+      possible : Impossible (groundOf l) u w → ⊥
+      possible (inl e) = omega (arith, facts .0)
+      possible (inr (inl e)) = omega (arith, facts .1)
+      possible (inr (inr e)) = omega (arith, facts .2)
+
+  pub refused-full : (u : List ℕ) (w : WalkRecord) → Walked (groundOf l) w₀ u w → (m : ℕ) → First m (stepLines l u w) → m ≡ 11
+  refused-full u w h m f =
+      ⊎-elim (λ g. first-clear m (walkLines l u w) g (walk-passes h)) (λ (_, g). last-during m (listLines l row) last row-clear g)
+      (first-append m (walkLines l u w) (during (Ahead (groundOf l) w) (listLines l row ++ last ∷ [])) .0 f)
+    where
+      -- the row that is tried
+      row : List ℕ
+      row = rowOf wordCount u (w .step / length (circuitsOf l))
+
+      last : Line
+      last = record { number = 11; when = Flips (groundOf l) (linesOf l) u w × New (groundOf l) (linesOf l) u w × Full (groundOf l) u w }
+
+      row-clear : (w .step ≡ w .rows * length (circuitsOf l) → ⊥) → Clear (listLines l row)
+      row-clear ahead =
+          let p = walk-listing (patch-sound l) w₀ (v₀ .0) h .possible in
+          accepted-iff-triangulation l row .1 (rows-kept h (w .step / length (circuitsOf l)) (tried-row (w .rows) (w .step) (length (circuitsOf l)) (omega arith)) .0)
 
   -- where it ends
   module _ (u : List ℕ) (v : Walk) (h : WalkedTo u v) where
@@ -180,8 +228,7 @@ module _ (l : List ℤ) (w₀ : List ℕ) (v₀ : Words wordCount w₀) where
         first = first-row h
 
         kept : (p : ℕ) → p < v .rows → Accepted l (rowOf wordCount u p) × Words wordCount (rowOf wordCount u p) × (areaSumOf l (rowOf wordCount u p) ≡ areaSumOf l w₀)
-        kept = row-kept (patch-sound l) w₀ (v₀ .0) h (λ w. Accepted l w × Words wordCount w × (areaSumOf l w ≡ areaSumOf l w₀))
-            (λ w w′ z _ (a, x, q) m e. (flip-accepted l w w′ z (x .0) e, flip-words l w w′ z (x .0) e, flip-keeps-area l w w′ z x e ∙ q)) (first .1, v₀, refl)
+        kept = rows-kept h
 
   pub walk-whole : (u : List ℕ) (w : WalkRecord) → Walked (groundOf l) w₀ u w → w .step ≡ w .rows * length (circuitsOf l) → (w′ : List ℕ) → Stands wordCount u (w .rows) w′ ↔ BareReach l w₀ w′
   walk-whole u w h e w′ = let (c, a) = first-row h in let s = all-held h e w′ in let b = reach-bare l c w₀ a v₀ w′ in (λ x. b .0 (s .0 x), λ x. s .1 (b .1 x))

@@ -1,9 +1,9 @@
 -- `patch::patch_circuit` meets its contract: the room's answer is returned as a number, and the two sides that it gives are stored.
 use mathlib.Core.Path.{ap}
 use borrow.Author.Needs.{needs}
+use Rattle.algebra.proofs.AnswerLaws.{in-case}
 use Rattle.circuits.specs.Calls.{readSplit}
 use Rattle.patch.specs.Returns.{numberOf, plusAt, minusAt}
-use Rattle.patch.proofs.ReturnLaws.{in-case}
 use Rattle.patch.proofs.patch_circuit.Statement.{statement}
 use Rattle.patch.proofs.patch_circuit.Tie as tie
 

@@ -4,10 +4,11 @@ use mathlib.Core.List.{List}
 use Prim.Native.Nat.{ℕ}
 use native.Mathlib.Omega.{arith}
 use borrow.Author.Needs.{needs}
+use Rattle.algebra.proofs.AnswerLaws.{in-case}
 use Rattle.triples.specs.Sizes.{wordCount}
 use Rattle.surfaces.specs.Calls.{readSurface, flipOf}
 use Rattle.algebra.proofs.WordLaws.{row-whole}
-use Rattle.patch.proofs.ReturnLaws.{in-case, returned, returned-list}
+use Rattle.patch.proofs.ReturnLaws.{returned, returned-list}
 use Rattle.patch.proofs.patch_flip.Statement.{statement}
 use Rattle.patch.proofs.patch_flip.Tie as tie
 

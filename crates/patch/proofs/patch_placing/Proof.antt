@@ -1,8 +1,9 @@
 -- `patch::patch_placing` meets its contract: the room's answer is returned as a number, and the list that it gives is written.
 use native.Mathlib.Omega.{arith}
 use borrow.Author.Needs.{needs}
+use Rattle.algebra.proofs.AnswerLaws.{in-case}
 use Rattle.surfaces.specs.Calls.{readSurface}
-use Rattle.patch.proofs.ReturnLaws.{in-case, returned, returned-list}
+use Rattle.patch.proofs.ReturnLaws.{returned, returned-list}
 use Rattle.patch.proofs.patch_placing.Statement.{statement}
 use Rattle.patch.proofs.patch_placing.Tie as tie
 

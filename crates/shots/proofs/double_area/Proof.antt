@@ -1,43 +1,26 @@
--- `shots::double_area` meets its contract: the chain stops at the run, at the numbers, or gives the size.
-use mathlib.Core.Path.{sym, _∙_}
-use mathlib.Core.List.{[], _∷_}
+-- `shots::double_area` meets its contract: a refusal of `orientation` is handed on, and of an area that it gives the size.
+use mathlib.Core.Path.{refl, _∙_, ap}
 use borrow.Author.Needs.{needs}
-use Rattle.shots.specs.Patch.{countOf}
-use Rattle.shots.specs.Calls.{doubleAreaOf, shotsRule}
-use Rattle.shots.proofs.Patch.{patch-near}
-use Rattle.shots.proofs.Chains.{all-below, shots-refused, rule-broken, rule-kept}
+use lib.IntN.{natAbs}
+use mir.Syntax.{w64}
+use Rattle.algebra.specs.Answer.{gives, onValue}
+use Rattle.algebra.proofs.AnswerLaws.{in-case}
+use Rattle.algebra.proofs.SizeLaws.{read-back}
+use Rattle.shots.specs.Calls.{readOriented, doubleAreaOf}
 use Rattle.shots.proofs.double_area.Statement.{statement}
 use Rattle.shots.proofs.double_area.Tie as tie
 
 returns : tie.Need-returns
 unfolding doubleAreaOf
-returns c = let a = c .before .before .args in shots-refused (a .shots .now) (shotsRule (a .shots .now) (a .a) (a .b) (a .c) ∷ []) _ (c .before .refusal .ensures) (c .if1 .taken)
+returns c = ap (onValue natAbs) (in-case readOriented (c .before .number .given .1) (c .before .before .before .orientation .ensures))
 
+-- the area is read back from its bits
 returns-2 : tie.Need-returns-2
 unfolding doubleAreaOf
 returns-2 c =
-    let d = c .before .before in
-    let a = d .before .before .args in
-    rule-broken (a .shots .now) (shotsRule (a .shots .now) (a .a) (a .b) (a .c)) _ (d .before .refusal .ensures) (d .if1 .left) (c .before .no-shot .ensures) (c .if2 .taken)
-
-size-requires : tie.Need-size-requires
-size-requires c κs =
-    let d = c .before .before in
-    let a = d .before .before .args in
-    let n = countOf (a .shots .now) in
-    let h = all-below n (a .a) n (a .b) n (a .c) (c .before .no-shot .ensures) (c .if2 .left) in
-    (h .0, h .1, h .2, patch-near (a .shots .now) (sym (d .before .refusal .ensures) ∙ d .if1 .left))
-
-returns-3 : tie.Need-returns-3
-unfolding doubleAreaOf
-returns-3 c =
-    let b = c .before in
-    let d = b .before .before in
-    let a = d .before .before .args in
-    rule-kept (a .shots .now) (shotsRule (a .shots .now) (a .a) (a .b) (a .c)) _ (d .before .refusal .ensures) (d .if1 .left) (b .before .no-shot .ensures) (b .if2 .left)
-    (c .size .ensures)
+    let p = c .before in
+    ap gives (c .size-of .ensures ∙ ap natAbs (read-back w64 (p .before .signed .given .0 .0) (p .known-told2 .given .0 .1) refl))
+    ∙ ap (onValue natAbs) (in-case readOriented (p .before .signed .given .1) (p .before .before .before .orientation .ensures))
 
 pub double-area-spec : {M : Type 1} → statement M
-double-area-spec =
-    tie.close
-    (tie.spec (λ c κs. search needs) returns (λ c κs. search needs) returns-2 size-requires returns-3)
+double-area-spec = tie.close (tie.spec (λ c κs. search needs) (λ c. search needs) (λ c. search needs) (λ c κs. search needs) returns returns-2)

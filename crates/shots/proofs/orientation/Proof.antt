@@ -1,8 +1,8 @@
--- `shots::orientation` meets its contract: the chain stops at the run, at the numbers, or gives the sign.
+-- `shots::orientation` meets its contract: the chain stops at the run, at the numbers, or gives the area.
 use mathlib.Core.Path.{sym, _∙_}
 use mathlib.Core.List.{[], _∷_}
 use borrow.Author.Needs.{needs}
-use mir.Syntax.{w8}
+use mir.Syntax.{w64}
 use Rattle.algebra.proofs.SizeLaws.{read-back}
 use Rattle.shots.specs.Patch.{countOf}
 use Rattle.shots.specs.Calls.{orientationOf, shotsRule}
@@ -22,8 +22,8 @@ returns-2 c =
     let a = d .before .before .args in
     rule-broken (a .shots .now) (shotsRule (a .shots .now) (a .a) (a .b) (a .c)) _ (d .before .refusal .ensures) (d .if1 .left) (c .before .no-shot .ensures) (c .if2 .taken)
 
-sign-requires : tie.Need-sign-requires
-sign-requires c κs =
+area-requires : tie.Need-area-requires
+area-requires c κs =
     let d = c .before .before in
     let a = d .before .before .args in
     let n = countOf (a .shots .now) in
@@ -37,9 +37,9 @@ returns-3 c =
     let d = b .before .before in
     let a = d .before .before .args in
     rule-kept (a .shots .now) (shotsRule (a .shots .now) (a .a) (a .b) (a .c)) _ (d .before .refusal .ensures) (d .if1 .left) (b .before .no-shot .ensures) (b .if2 .left)
-    (read-back w8 (c .sign .result) (c .sign .ok) (c .sign .ensures))
+    (read-back w64 (c .area .result) (c .area .ok) (c .area .ensures))
 
 pub orientation-spec : {M : Type 1} → statement M
 orientation-spec =
     tie.close
-    (tie.spec (λ c κs. search needs) returns (λ c κs. search needs) returns-2 sign-requires returns-3)
+    (tie.spec (λ c κs. search needs) returns (λ c κs. search needs) returns-2 area-requires returns-3)

@@ -1,59 +1,65 @@
--- `shots::plane::size_of` meets its contract: a number, or 0 less it, is not negative and fits.
-use mathlib.Core.Path.{_≡_, refl, ap, _∙_}
-use mathlib.Core.Bool.{true, false}
-use Prim.Native.Nat.{suc, _*_, _≤_}
+-- `shots::plane::size_of` meets its contract: -1 less a negative number is not negative and fits, and is one short of its size.
+use mathlib.Core.Path.{_≡_, refl, sym, ap, _∙_}
+use mathlib.Core.Bool.{true, false, true≢false}
+use Prim.Native.Nat.{suc, _+_, _<_, _^_}
 use native.Mathlib.Omega.{arith}
-use native.Mathlib.Nat.{zero-add}
 use borrow.Author.Needs.{needs}
 use borrow.Author.Tests.{le-ltb}
 use lib.Dec.{T}
 use lib.IntN.{ℤ, pos, negsuc, natAbs, _-ℤ_}
-use lib.Signed.{ltZ, nonNeg}
+use lib.Signed.{mag, ltZ, nonNeg}
 use mir.Syntax.{w64}
-use mir.Val.{SFits, Fits, toZ, ofZ}
+use mir.Val.{Fits, toZ, ofZ, hbits}
 use mir.ValLaws.{toZ-ofZ}
-use Rattle.algebra.proofs.SizeLaws.{natAbs-sub, sfits-size}
-use Rattle.shots.specs.Sizes.{farthest}
 use Rattle.shots.proofs.plane.size_of.Statement.{statement}
 use Rattle.shots.proofs.plane.size_of.Tie as tie
 
-neg-size : (x : ℤ) → ltZ x (pos 0) ≡ true → pos 0 -ℤ x ≡ pos (natAbs x)
-neg-size (pos n) h = cc (le-ltb n 0 (omega arith))
-neg-size (negsuc n) h = ap pos (zero-add (suc n))
+-- of a negative number `mag` is one less than the size
+below : (x : ℤ) → ltZ x (pos 0) ≡ true → (negsuc 0 -ℤ x ≡ pos (mag x)) × (mag x + 1 ≡ natAbs x)
+below (pos n) h = absurd (true≢false (sym h ∙ le-ltb n 0 (omega arith)))
+below (negsuc n) h = (rw (le-ltb (suc n) 1 (omega arith)) (ap pos (omega arith)), omega arith)
 
-pos-size : (x : ℤ) → ltZ x (pos 0) ≡ false → x ≡ pos (natAbs x)
-pos-size (pos n) h = refl
-pos-size (negsuc n) h = cc
-
-small : (x : ℤ) → natAbs x ≤ 8 * farthest * farthest → SFits w64 (pos 0 -ℤ x)
-small x h = sfits-size w64 (pos 0 -ℤ x) (omega (arith, natAbs-sub (pos 0) x))
+above : (x : ℤ) → ltZ x (pos 0) ≡ false → (x ≡ pos (mag x)) × (mag x ≡ natAbs x)
+above (pos n) h = (refl, refl)
+above (negsuc n) h = absurd (true≢false h)
 
 module _ (s : tie.Start) where
   -- the machine's x is x
   own : toZ w64 (ofZ w64 (s .args .x)) ≡ s .args .x
   own = toZ-ofZ w64 (s .args .x) (s .fits .x)
 
-  turned : ltZ (s .args .x) (pos 0) ≡ true → toZ w64 (ofZ w64 (pos 0 -ℤ toZ w64 (ofZ w64 (s .args .x)))) ≡ pos (natAbs (s .args .x))
-  turned h = ap (λ (z : ℤ). toZ w64 (ofZ w64 (pos 0 -ℤ z))) own ∙ toZ-ofZ w64 (pos 0 -ℤ s .args .x) (small (s .args .x) (s .pre)) ∙ neg-size (s .args .x) h
+  low : mag (s .args .x) < 2 ^ hbits w64
+  low = s .fits .x .sfits
 
-  kept : ltZ (s .args .x) (pos 0) ≡ false → toZ w64 (ofZ w64 (s .args .x)) ≡ pos (natAbs (s .args .x))
-  kept h = own ∙ pos-size (s .args .x) h
+  turned : ltZ (s .args .x) (pos 0) ≡ true → negsuc 0 -ℤ toZ w64 (ofZ w64 (s .args .x)) ≡ pos (mag (s .args .x))
+  turned h = ap (λ (z : ℤ). negsuc 0 -ℤ z) own ∙ below (s .args .x) h .0
 
   -- what a cast to unsigned asks of a number that is not negative
-  casts : (z : ℤ) → z ≡ pos (natAbs (s .args .x)) → T (nonNeg z) × Fits w64 (natAbs z)
-  casts z e = simp e (tt, record { fits = omega (arith, s .pre) })
+  casts : (z : ℤ) → z ≡ pos (mag (s .args .x)) → T (nonNeg z) × Fits w64 (natAbs z)
+  casts z e = simp e (tt, record { fits = omega (arith, low) })
+
+  -- the difference is read back from its bits
+  read : ltZ (s .args .x) (pos 0) ≡ true → toZ w64 (ofZ w64 (negsuc 0 -ℤ toZ w64 (ofZ w64 (s .args .x)))) ≡ pos (mag (s .args .x))
+  read h = ap (λ (z : ℤ). toZ w64 (ofZ w64 z)) (turned h) ∙ toZ-ofZ w64 (pos (mag (s .args .x))) (record { sfits = low })
+
+-- the branch, of x itself
+taken : (c : tie.Then1) → ltZ (c .before .args .x) (pos 0) ≡ true
+taken c = simp (own (c .before)) at (c .if1 .taken)
 
 sub-result : tie.Need-sub-result
-sub-result c = simp (own (c .before)) (small (c .before .args .x) (c .before .pre))
+sub-result c = simp (turned (c .before) (taken c)) (record { sfits = low (c .before) })
 
 cast-result : tie.Need-cast-result
-cast-result c = casts (c .before) _ (turned (c .before) (simp (own (c .before)) at (c .if1 .taken)))
+cast-result c = casts (c .before) _ (read (c .before) (taken c))
+
+add-result : tie.Need-add-result
+add-result c = simp (read (c .before) (taken c)) (record { fits = omega (arith, low (c .before)) })
 
 cast-result-2 : tie.Need-cast-result-2
-cast-result-2 c = casts (c .before) _ (kept (c .before) (simp (own (c .before)) at (c .if1 .left)))
+cast-result-2 c = casts (c .before) _ (own (c .before) ∙ above (c .before .args .x) (simp (own (c .before)) at (c .if1 .left)) .0)
 
 returns : tie.Need-returns
-returns c = ap natAbs (turned (c .before) (simp (own (c .before)) at (c .if1 .taken)))
+returns c = ap (λ (z : ℤ). natAbs z + 1) (read (c .before) (taken c)) ∙ below (c .before .args .x) (taken c) .1
 
 pub size-of-spec : {M : Type 1} → statement M
-size-of-spec = tie.close (tie.spec sub-result cast-result cast-result-2 returns (λ c. search needs))
+size-of-spec = tie.close (tie.spec sub-result cast-result add-result cast-result-2 returns (λ c. search needs))
