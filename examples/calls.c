@@ -1,5 +1,6 @@
 /*
- * calls: every call of patch.h, with document 01's cases and E1's. It prints each case that does not answer as it should, then how many did.
+ * calls: every call of patch.h, with document 01's cases, the areas that E6 asks for and E1's patch. It prints each case that does not answer as it
+ * should, then how many did.
  * What a call lends it finds unchanged where it is refused.
  */
 #include "patch.h"
@@ -60,13 +61,14 @@ static void places(void)
     int8_t signs[PATCH_SHOTS_MOST];
     static const int8_t row[PATCH_SHOTS_MOST] = {0, -1, 0, 1, 0};
     static const int32_t widest[] = {-1000000, -1000000, 1000000, -1000000, 1000000, 1000000};
+    IS(patch_orientation(square, N, 0, 1, 5, &signed_area) == PATCH_FORM && signed_area == 9);
+    IS(patch_orientation(square, 9, 0, 1, 2, &signed_area) == PATCH_COUNT && signed_area == 9);
     IS(patch_orientation(square, N, 0, 1, 2, &signed_area) == 0 && signed_area == 4);
     IS(patch_orientation(square, N, 0, 2, 1, &signed_area) == 0 && signed_area == -4);
     IS(patch_orientation(square, N, 0, 2, 4, &signed_area) == 0 && signed_area == 0);
     IS(patch_orientation(widest, 6, 0, 1, 2, &signed_area) == 0 && signed_area == 4000000000000);
     IS(patch_orientation(widest, 6, 1, 0, 2, &signed_area) == 0 && signed_area == -4000000000000);
-    IS(patch_orientation(square, N, 0, 1, 5, &signed_area) == PATCH_FORM && signed_area == -4000000000000);
-    IS(patch_orientation(square, 9, 0, 1, 2, &signed_area) == PATCH_COUNT && signed_area == -4000000000000);
+    IS(patch_orientation(square, N, 1, 1, 2, &signed_area) == 0 && signed_area == 0);
     IS(patch_double_area(square, N, 0, 2, 1, &area) == 0 && area == 4);
     IS(patch_double_area(square, N, 0, 1, (size_t)-1, &area) == PATCH_FORM && area == 4);
     memset(signs, 9, sizeof signs);

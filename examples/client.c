@@ -58,6 +58,9 @@ static size_t load(const char *name, uint8_t *bytes, size_t most)
     return size;
 }
 
+/* where the triangles of a surface record begin, and the bytes of one */
+enum { FIRST = 5, TRIANGLE = 3 };
+
 /* the triangles of a list by their shots: its record has them one by one */
 static uint8_t show(const int32_t *shots, size_t length, const uint64_t *list)
 {
@@ -65,20 +68,20 @@ static uint8_t show(const int32_t *shots, size_t length, const uint64_t *list)
     size_t size;
     uint8_t refusal = patch_write_surface(shots, length, list, record, sizeof record, &size);
     if (refusal == 0)
-        for (size_t at = 5; at < size; at += 3)
+        for (size_t at = FIRST; at < size; at += TRIANGLE)
             printf(" %u%u%u", record[at], record[at + 1], record[at + 2]);
     return refusal;
 }
 
-/* the double area of an accepted list: one call for each triangle says which way it turns and how large it is */
+/* the double area of an accepted list: the sizes of what the orientation call gives for its triangles */
 static uint8_t measure(const int32_t *shots, size_t length, const uint64_t *list, uint64_t *twice)
 {
     uint8_t record[PATCH_SURFACE_BYTES];
     size_t size;
-    int64_t area;
     *twice = 0;
     uint8_t refusal = patch_write_surface(shots, length, list, record, sizeof record, &size);
-    for (size_t at = 5; refusal == 0 && at < size; at += 3) {
+    for (size_t at = FIRST; refusal == 0 && at < size; at += TRIANGLE) {
+        int64_t area = 0;
         refusal = patch_orientation(shots, length, record[at], record[at + 1], record[at + 2], &area);
         *twice += area < 0 ? -area : area;
     }

@@ -228,7 +228,7 @@ def extreme_cases():
 
 def orientation_cases():
     remark("orientation: every order of three shots, near, far and on a line")
-    for patch, t in [(SQUARE, (0, 1, 2)), (SQUARE, (1, 3, 4)), (EXTREMES, (0, 1, 2)), (EXTREMES, (1, 3, 6)), (EXTREMES, (4, 5, 6)), (LATE_START, (0, 2, 5))]:
+    for patch, t in [(SQUARE, (1, 2, 4)), (SQUARE, (1, 3, 4)), (EXTREMES, (0, 2, 3)), (EXTREMES, (0, 3, 6)), (EXTREMES, (2, 4, 5)), (LATE_START, (0, 2, 5))]:
         for order in itertools.permutations(t):
             case("orientation", patch, *order)
     remark("orientation: shots that are not all different")
@@ -236,7 +236,7 @@ def orientation_cases():
         case("orientation", EXTREMES, *t)
         case("double_area", EXTREMES, *t)
     remark("orientation: four shots whose areas balance, around, crosswise, one inside, three on a line")
-    for patch, (a, b, c, d) in [(SQUARE, (0, 1, 2, 3)), (SQUARE, (0, 2, 1, 3)), (EXTREMES, (0, 1, 2, 3)), (EXTREMES, (0, 1, 6, 4)), (PENTAGON, (4, 1, 3, 0)), (LATE_START, (5, 0, 4, 3))]:
+    for patch, (a, b, c, d) in [(PENTAGON, (0, 1, 2, 3)), (PENTAGON, (4, 2, 1, 0)), (GRID33, (0, 5, 7, 4)), (GRID33, (3, 0, 8, 5)), (OUTLINE, (7, 4, 2, 5)), (LATE_START, (5, 0, 4, 3))]:
         for t in [(a, b, c), (a, c, d), (a, b, d), (b, c, d)]:
             case("orientation", patch, *t)
     remark("orientation: several faults at once")

@@ -101,7 +101,7 @@ impl Patch {
         usize::try_from(number).ok().and_then(|z| self.circuits.get(z)).ok_or(Refusal::CircuitNumber)
     }
 
-    /// The expression whose sign is the orientation and whose size is the double area.
+    /// The double area with its sign, as `orientation` answers it.
     pub fn turn(&self, [a, b, c]: [usize; 3]) -> i128 {
         turn(self.shots[a], self.shots[b], self.shots[c])
     }

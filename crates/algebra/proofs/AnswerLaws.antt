@@ -4,8 +4,9 @@
 --   chain-gives     it gives its value exactly when no line holds
 --   chain-refuses-upon, chain-gives-upon    the same where its second part is decided only if no line of the first part holds
 --   given-refused   a value is no refusal
---   on-value-chain  a chain with a function of its value
---   in-case         what an answer reads as, read of the case that it is
+--   in-case         where an answer is known to be a case, the case reads as the answer does
+--   on-value-refuses, on-value-gives    a function of an answer's value is refused where the answer is, and gives that function of what the answer gives
+--   on-value-chain  a function of what a chain gives is the same chain with that function of its value
 --   one-answer      two answers with one reading are one answer
 --   chain-broken, chain-kept, chain-stop, chain-after    what a sequence of tests in the code says of its chain
 --   chain-stops, chain-goes                 what a first part, known by its answer, says of a longer chain
@@ -53,6 +54,14 @@ refuses-one e = cc
 
 gives-one : {A : Type 0} {v w : A} → gives v ≡ gives w → v ≡ w
 gives-one e = cc
+
+pub on-value-refuses : {A B : Type 0} (f : A → B) (a : Answer A) (n : ℕ) → (onValue f a ≡ refuses n) ↔ (a ≡ refuses n)
+on-value-refuses f (gives v) n = (λ e. given-refused e, λ e. given-refused e)
+on-value-refuses f (refuses m) n = (λ e. ap refuses (refuses-one e), λ e. ap refuses (refuses-one e))
+
+pub on-value-gives : {A B : Type 0} (f : A → B) (a : Answer A) (w : B) → (onValue f a ≡ gives w) ↔ ((v : A) × (a ≡ gives v) × (f v ≡ w))
+on-value-gives f (gives v) w = (λ e. (v, refl, gives-one e), λ (u, e, q). ap gives (ap f (gives-one e) ∙ q))
+on-value-gives f (refuses n) w = (λ e. given-refused (sym e), λ (u, e, q). given-refused (sym e))
 
 -- the code has matched the answer r, and found the case s
 pub in-case : {E A : Type 0} (read : E → A) {r s : E} {a : A} → r ≡ s → read r ≡ a → read s ≡ a

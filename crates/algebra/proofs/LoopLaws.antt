@@ -1,6 +1,7 @@
 -- What a loop wants of `any`, `every`, `first`, `fold`, `tally` and `tabulate`: where it begins, one turn more, where it ends; and laws of `anyOf` and `sumOf`.
 --
 --   last, or-parts, and-parts                a number below suc n; what two tests joined say of each
+--   or-swap, or-swap-first                   tests joined in another order
 --   any-none, go-on, found, none             a loop that looks for one that passes
 --   every-none, every-on, every-broken, every-end   a loop that looks for one that does not pass
 --   first-none, first-on, first-found, first-end    a loop that looks for the first that passes
@@ -73,6 +74,18 @@ or-right false b p = p
 pub or-parts : (a b : Bool) → (a || b) ≡ false → (a ≡ false) × (b ≡ false)
 or-parts true b p = (p, cc)
 or-parts false b p = (refl, p)
+
+pub or-swap : (a b : Bool) → (a || b) ≡ (b || a)
+or-swap true true = refl
+or-swap true false = refl
+or-swap false true = refl
+or-swap false false = refl
+
+pub or-swap-first : (a b c : Bool) → (a || (b || c)) ≡ (b || (a || c))
+or-swap-first true true c = refl
+or-swap-first true false c = refl
+or-swap-first false true c = refl
+or-swap-first false false c = refl
 
 module _ (f : ℕ → Bool) where
   pub any-none : any 0 f ≡ false

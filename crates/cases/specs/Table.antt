@@ -1,5 +1,5 @@
--- The proved cases of document 01, "The square with its centre", and of document 02, E1 and E6, as one table: a patch, what is asked of it, and the answer that the document states; of document
--- 01's run cases those of the walk.
+-- The proved cases of document 01, "The square with its centre", with its orientations as the numbers that document 02, E6, asks for, and E1's patch, as one table: a patch, what is asked of it,
+-- and the answer; of document 01's run cases those of the walk.
 --
 --   Question      a call and its numbers; or the double areas of a list, summed
 --   Told         an answer: a value or the number that refuses; or a sum

@@ -62,14 +62,14 @@ pub extern "C" fn patch_orientation(
     a: usize,
     b: usize,
     c: usize,
-    area: &mut i64,
+    signed: &mut i64,
 ) -> u8
-    ensures { λ r. ⌜ (r ≡ numberOf (orientationOf (now (shots .entry)) a b c)) × (now (area .exit) ≡ leftAt (now (area .entry)) (orientationOf (now (shots .entry)) a b c)) ⌝ }
+    ensures { λ r. ⌜ (r ≡ numberOf (orientationOf (now (shots .entry)) a b c)) × (now (signed .exit) ≡ leftAt (now (signed .entry)) (orientationOf (now (shots .entry)) a b c)) ⌝ }
 {
     match shots::orientation(shots, a, b, c) {
         Oriented::Refused(number) => number,
-        Oriented::Area(signed) => {
-            *area = signed;
+        Oriented::Area(x) => {
+            *signed = x;
             0
         }
     }

@@ -3,11 +3,13 @@
 --   start-refuses, step-refuses    a refusal number exactly when its line is the first that holds
 --   start-starts              started exactly when no line holds
 --   step-done, step-made      done exactly where the first rules and the record pass and the walk is at its end; made exactly where no line holds and it is not
+--   step-full                 where its first rules, the record and the row that is tried pass, 11 is the one number that refuses a step
+--   walk-clear                no line of the first tests holds exactly where no first line of the ground does and the record is possible
 --   Fronted t w rs ks x, walk-fronted    rules in front of a landing: one is broken and its number is answered, with everything as it was, or they let it pass
 --
 -- That a refused start or step changes nothing: proofs/StepLaws. Source: document 01, "The walk", "Refusal numbers".
 use mathlib.Core.Path.{_≡_, refl, sym, _∙_, ap}
-use mathlib.Core.Logic.{_⊎_, inl, inr, _↔_}
+use mathlib.Core.Logic.{_⊎_, inl, inr, ⊎-elim, _↔_}
 use mathlib.Core.Bool.{Bool, cond}
 use mathlib.Core.List.{List, [], _∷_, _++_}
 use Prim.Native.Nat.{ℕ, _*_, _<_}
@@ -40,6 +42,13 @@ clear-during A (x ∷ ls) c = (λ q. c .0 (q .1), clear-during A ls (c .1))
 clear-never : {A : Type 0} (ls : List Line) → (A → ⊥) → Clear (during A ls)
 clear-never [] h = tt
 clear-never (x ∷ ls) h = (λ q. h (q .0), clear-never ls h)
+
+-- with all but the last ruled out where A holds, it is the last
+last-during : {A : Type 0} (n : ℕ) (ls : List Line) (x : Line) → (A → Clear ls) → First n (during A (ls ++ x ∷ [])) → n ≡ x .number
+last-during n [] x c (inl p) = p .1
+last-during n [] x c (inr p) = absurd (p .1)
+last-during n (y ∷ ls) x c (inl p) = absurd (c (p .0 .0) .0 (p .0 .1))
+last-during n (y ∷ ls) x c (inr p) = last-during n ls x (λ a. c a .1) (p .1)
 
 -- ---- what a table says
 
@@ -112,8 +121,8 @@ module _ {g : Ground} {L : Lines} (lined : Lined g L) (t : List ℕ) (w : WalkRe
   pub walk-fronted : (x : Landing Reply) → Fronted t w (walkRules g t w) (walkLines g L t w) x
   walk-fronted x = fronted t w (walkRules g t w) (walkLines g L t w) x walk-decided
 
-  walk-clear : Clear (walkLines g L t w) → Clear (L .before) × (Impossible g t w → ⊥)
-  walk-clear c = let (a, (b, _)) = clear-append (L .before) (recordLine ∷ []) .0 c in (a, b)
+  pub walk-clear : Clear (walkLines g L t w) ↔ (Clear (L .before) × (Impossible g t w → ⊥))
+  walk-clear = let c = clear-append (L .before) (recordLine ∷ []) in (λ h. let (a, (b, _)) = c .0 h in (a, b), λ (a, b). c .1 (a, (b, tt)))
 
   abbrev row : List ℕ
   row = rowAt g t w
@@ -164,7 +173,7 @@ module _ {g : Ground} {L : Lines} (lined : Lined g L) (t : List ℕ) (w : WalkRe
       go : {b : Bool} → Reflects (w .step ≡ w .rows * g .circuits) b
           → Says (cond b done made) (during (Ahead g w) triedLines) (cond b (leaves t w (gives done)) (afterFlip g t w (g .flip row z)) .answer)
       go (holds e) = no-line (clear-never triedLines (λ a. a e))
-      go (fails a) = let (passed, possible) = walk-clear c in says-during triedLines a (flip-says (lined .flips passed row z (circuit-below possible a)))
+      go (fails a) = let (passed, possible) = walk-clear .0 c in says-during triedLines a (flip-says (lined .flips passed row z (circuit-below possible a)))
 
   step-says : Says replyOf (stepLines g L t w) (stepOf g t w .answer)
   unfolding stepOf
@@ -176,6 +185,11 @@ module _ {g : Ground} {L : Lines} (lined : Lined g L) (t : List ℕ) (w : WalkRe
 
   pub step-refuses : (n : ℕ) → (stepOf g t w .answer ≡ refuses n) ↔ First n (stepLines g L t w)
   step-refuses n = says-refuses (stepLines g L t w) step-says n
+
+  pub step-full : Clear (walkLines g L t w) → (Ahead g w → Clear (L .row (rowAt g t w) (circuitNumber g w))) → (n : ℕ) → stepOf g t w .answer ≡ refuses n → n ≡ 11
+  step-full c r n e =
+      ⊎-elim (λ f. first-clear n (walkLines g L t w) f c) (λ (_, f). last-during n (L .row row z) fullLine r f)
+      (first-append n (walkLines g L t w) (during (Ahead g w) triedLines) .0 (step-refuses n .0 e))
 
   -- the two answers of a step that is not refused
   reply-done : (replyOf ≡ done) ↔ (w .step ≡ w .rows * g .circuits)

@@ -11,7 +11,7 @@
 --   walk-ends-so        the walk ends done, or with the table full
 --   report-done         where it is done, the rows are printed, and they are exactly the surfaces that flips reach from w, each once
 --   report-full         where the table is full, the rows are printed
---   report-begins       the report of an accepted record begins with the first line, whose fields have what the calls give, and with the line of the placing surface
+--   report-begins       the report of an accepted record begins with the first line, whose four fields have what the calls give, and then the line of the placing surface
 use mathlib.Core.Path.{_≡_, refl, sym, _∙_, ap}
 use mathlib.Core.Logic.{_⊎_, inl, inr, ⊎-elim, _↔_}
 use mathlib.Core.Bool.{Bool, true, false}
@@ -22,7 +22,7 @@ use lib.ListN.{length, replicate}
 use lib.IntN.{ℤ}
 use Rattle.algebra.specs.Answer.{Answer, gives, refuses}
 use Rattle.algebra.specs.Loops.{tally, run, over}
-use Rattle.algebra.specs.Words.{Words, rowOf}
+use Rattle.algebra.specs.Words.{Words}
 use Rattle.algebra.proofs.OverLaws.{over-split}
 use Rattle.reach.specs.Walks.{Reply, made, done}
 use Rattle.reach.specs.Reach.{Stands}
@@ -46,8 +46,8 @@ use Rattle.walks.proofs.Theorem.{walk-surfaces}
 use Rattle.records.specs.Fields.{Bytes}
 use Rattle.records.specs.Reading.{coordinatesOf}
 use Rattle.records.specs.Calls.{readPatchOf}
-use Rattle.records.proofs.Promises.{read-patch-accepted, read-patch-long}
-use Rattle.text.specs.Lines.{Put, rowLine, lastLine, refusedLine}
+use Rattle.records.proofs.Promises.{read-patch-count, read-patch-accepted, read-patch-long}
+use Rattle.text.specs.Lines.{Put, patchLine, rowLine, lastLine, refusedLine}
 use Rattle.report.specs.Sizes.{tableWords, stepsMost}
 use Rattle.report.specs.Report.{noWalk, begunOf, walkOf, firstLine, lineAt, surfacesText, endText, endOf, walkText, placedText, patchText, reportOf}
 use Rattle.report.specs.Report.{refusedFind, walkFind, placedFind, patchFind, findOf, lineCount, lineOf}
@@ -139,7 +139,7 @@ module _ (l : List ℤ) (w : List ℕ) (placed : placingOf l ≡ gives w) where
       (λ k. firstLine l (report-surfaces .first k) ++ (first-row k ++ last))
       ∙ ap (λ (s : List ℕ). firstLine l w ++ s) (append-assoc (rowLine (countOf l) 0 w) (over (lineAt (countOf l) (walkOf l w .table)) 1 (walkOf l w .walk .rows)) last)
 
-pub report-begins : (b : List ℕ) (n : ℕ) → readPatchOf b .answer ≡ gives n → Begins b
+pub report-begins : (b : List ℕ) (n : ℕ) → readPatchOf b .answer ≡ gives n → Begins b n
 unfolding firstLine
 report-begins b n e =
     let l : List ℤ = coordinatesOf b in
@@ -152,7 +152,9 @@ report-begins b n e =
       sides = tally (countOf l) (sidesOf l);
       area = areaSumOf l (placedOf l);
       rest = over (lineAt (countOf l) (walkOf l (placedOf l) .table)) 1 (walkOf l (placedOf l) .walk .rows) ++ lastLine d (walkOf l (placedOf l) .walk .rows) (walkOf l (placedOf l) .walk .step);
-      text = report-walk b n (placedOf l) e placed ∙ shown ∙ surfaces-begin l (placedOf l) placed d;
+      text = report-walk b n (placedOf l) e placed ∙ shown ∙ surfaces-begin l (placedOf l) placed d
+          ∙ (λ k. patchLine (read-patch-count b n e k) (length (circuitsOf l)) (tally (countOf l) (sidesOf l)) (areaSumOf l (placedOf l)) ++ (rowLine (read-patch-count b n e k) 0 (placedOf l)
+          ++ (over (lineAt (countOf l) (walkOf l (placedOf l) .table)) 1 (walkOf l (placedOf l) .walk .rows) ++ lastLine d (walkOf l (placedOf l) .walk .rows) (walkOf l (placedOf l) .walk .step))));
       row-is = placed;
       circuits-is = count-gives l _ .1 (patch, refl);
       sides-is = border-gives l _ .1 (patch, refl);

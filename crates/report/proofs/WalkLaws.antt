@@ -34,7 +34,7 @@ use Rattle.surfaces.specs.Calls.{placingOf}
 use Rattle.surfaces.proofs.Promises.{placing-gives, placing-accepted}
 use Rattle.walks.specs.Calls.{groundOf}
 use Rattle.walks.specs.Lines.{walkLines}
-use Rattle.walks.proofs.Promises.{run-refused-leaves}
+use Rattle.walks.proofs.Promises.{step-refuses, run-refused-leaves}
 use Rattle.walks.proofs.Theorem.{patch-sound, walk-passes, refused-full}
 use Rattle.report.specs.Sizes.{tableRows, tableWords, stepsMost}
 use Rattle.report.specs.Report.{noWalk, begunOf, walkOf}
@@ -92,5 +92,5 @@ module _ (l : List ℤ) (w : List ℕ) (accepted : testOf l w ≡ gives tt) wher
     unfolding walkOf
     walk-full m e =
         ⊎-elim (λ (f, _). first-clear m (walkLines l (begunOf l w .table) (begunOf l w .walk)) f (walk-passes l w words begun-walked))
-        (λ (_, (k, _, _, f, q)). refused-full l w words _ _ (subst (λ (x : Landing Reply). Walked (groundOf l) w (x .table) (x .walk)) q walk-walked) m f)
+        (λ (_, (k, _, _, f, q)). refused-full l w words _ _ (subst (λ (x : Landing Reply). Walked (groundOf l) w (x .table) (x .walk)) q walk-walked) m (step-refuses l _ _ m .1 f))
         (run-refused-leaves l (begunOf l w .table) (begunOf l w .walk) stepsMost m e)

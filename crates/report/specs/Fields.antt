@@ -1,6 +1,7 @@
 -- What the report of an accepted record begins with, in the words of the calls.
 --
---   Begins b     the report of the bytes b begins with the first line and then the line of row 0, where
+--   Begins b n   of the bytes b, in which the call `read_patch` finds n shots, the report begins with the first line and then the line of row 0:
+--     text         the whole text, `rest` behind these two lines. The field `patch` is n
 --     row          row 0 is the placing surface
 --     circuits     the field `circuits` has the number that the call `circuits::count` gives
 --     sides        the field `border` that of the call `shots::border`
@@ -11,7 +12,6 @@ use mathlib.Core.Path.{_≡_}
 use mathlib.Core.List.{List, _++_}
 use Prim.Native.Nat.{ℕ}
 use Rattle.algebra.specs.Answer.{gives}
-use Rattle.shots.specs.Patch.{countOf}
 use Rattle.shots.specs.Calls.{borderCallOf}
 use Rattle.circuits.specs.Calls.{countCallOf}
 use Rattle.surfaces.specs.Areas.{SumOfSizes}
@@ -20,13 +20,13 @@ use Rattle.records.specs.Reading.{coordinatesOf}
 use Rattle.text.specs.Lines.{patchLine, rowLine}
 use Rattle.report.specs.Report.{reportOf}
 
-pub record Begins (b : List ℕ) : Type 0 where
+pub record Begins (b : List ℕ) (n : ℕ) : Type 0 where
   pub row : List ℕ
   pub circuits : ℕ
   pub sides : ℕ
   pub area : ℕ
   pub rest : List ℕ
-  pub text : reportOf b ≡ patchLine (countOf (coordinatesOf b)) circuits sides area ++ (rowLine (countOf (coordinatesOf b)) 0 row ++ rest)
+  pub text : reportOf b ≡ patchLine n circuits sides area ++ (rowLine n 0 row ++ rest)
   pub row-is : placingOf (coordinatesOf b) ≡ gives row
   pub circuits-is : countCallOf (coordinatesOf b) ≡ gives circuits
   pub sides-is : borderCallOf (coordinatesOf b) ≡ gives sides

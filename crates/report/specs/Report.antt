@@ -6,7 +6,7 @@
 --   firstLine l w     the first line, where the first row is the list w
 --   lineAt n t p      the line of row p of the table t
 --   surfacesText l x d    the first line, the rows, and the last line: done, or full
---   endText l x a     so where the walk is complete (done) or the table full (11); where a step is refused otherwise, that
+--   endText l x a     so where the walk is complete (done) or the table full (11)
 --   endOf l w, walkText l w    where the walk from w ends, and its text
 --   placedText l a    the walk from the placing surface; or the number that refuses it
 --   patchText l a     so for the patch that was read; or the number that refuses the record
@@ -75,7 +75,7 @@ lineAt n t p = rowLine n p (rowOf wordCount t p)
 unfoldable pub surfacesText : List ℤ → Ended → Bool → List ℕ
 surfacesText l x d = firstLine l (rowOf wordCount (x .table) 0) ++ (over (lineAt (countOf l) (x .table)) 0 (x .walk .rows) ++ lastLine d (x .walk .rows) (x .walk .step))
 
--- a walk so long is never only made (`walk-not-made`)
+-- a walk so long is never only made, and no number but 11 refuses it (`walk-ends-so`): two of the cases do not come
 abbrev pub endText : List ℤ → Ended → Answer Reply → List ℕ
 endText l x (gives made) = surfacesText l x false
 endText l x (gives done) = surfacesText l x true

@@ -7,8 +7,8 @@
 --   right-is-left                                what lies right of a pair lies left of the pair turned
 --   between-says                                 of three shots on a line, which of them lies between the others
 --   orientation-agrees                           what `orientation` gives is the determinant
---   orientation-sign                             what the rooms above read is the sign of what `orientation` gives
---   cocircuit-reads                              so are the signs that `cocircuit` gives
+--   orientation-sign                             of three shots of an accepted patch: what the rooms above read, and the chirotope, is the sign of the number that `orientation` gives
+--   cocircuit-reads                              so is the sign that `cocircuit` gives for a pair at each shot
 --   orientation-swap, orientation-swap-first, orientation-swap-ends    two shots exchanged: the opposite number, or the same refusal
 --   orientation-repeated                         0 for shots not all different
 --   orientation-balance                          of four shots the areas balance
@@ -16,7 +16,7 @@
 -- Border pairs: proofs/Borders; sides: proofs/Sides.
 use mathlib.Core.Path.{_≡_, refl, sym, _∙_, ap}
 use mathlib.Core.Logic.{_⊎_, inl, inr, _↔_}
-use mathlib.Core.Bool.{Bool, true, false, _||_}
+use mathlib.Core.Bool.{Bool, true, _||_}
 use mathlib.Core.List.{List, [], _∷_, _++_}
 use Prim.Native.Nat.{ℕ, _<_}
 use native.Mathlib.Omega.{arith}
@@ -26,9 +26,9 @@ use lib.IntN.{ℤ, pos, negℤ, _+ℤ_}
 use lib.ListN.{getD}
 use Rattle.algebra.specs.Loops.{any}
 use Rattle.algebra.specs.Sign.{Sign, minus, nought, plus, signOf, opposite, value, isMinus, isPlus}
-use Rattle.algebra.specs.Answer.{Reflects, gives, onValue, Rule, chain, Clear}
+use Rattle.algebra.specs.Answer.{Reflects, gives, onValue, chain, Clear}
 use Rattle.algebra.proofs.AnswerLaws.{on-value-chain, reflects-iff, reflects-yes, reflects-true, reflects-minus}
-use Rattle.algebra.proofs.LoopLaws.{getD-tabulate}
+use Rattle.algebra.proofs.LoopLaws.{or-swap, or-swap-first, getD-tabulate}
 use Rattle.algebra.proofs.SignLaws.{signOf-zero, zero-signOf, signOf-opposite}
 use Rattle.matroid.specs.Configurations.{volume, chirotope}
 use Rattle.matroid.specs.Points.{Between, dot}
@@ -38,31 +38,16 @@ use Rattle.shots.specs.Sizes.{shotsMost}
 use Rattle.shots.specs.Coordinates.{pointOf, patchOf, areaOf}
 use Rattle.shots.specs.Patch.{countOf, orientOf, betweenOf, someLeft, someRight}
 use Rattle.shots.specs.Tests.{shotRules, refusalOf}
-use Rattle.shots.specs.Lines.{orientationLines}
+use Rattle.shots.specs.Lines.{shotLines, orientationLines}
 use Rattle.shots.specs.Calls.{orientationOf, signAt, cocircuitOf}
 use Rattle.shots.proofs.Patch.{patch-few, patch-differ}
-use Rattle.shots.proofs.Promises.{orientation-gives, orientation-clear, cocircuit-gives, cocircuit-signs, shots-kept}
+use Rattle.shots.proofs.Promises.{orientation-gives, orientation-clear, cocircuit-clear, cocircuit-signs, shots-kept}
 
 minus-plus : (s : Sign) → isMinus s ≡ isPlus (opposite s)
 unfolding opposite
 minus-plus minus = refl
 minus-plus nought = refl
 minus-plus plus = refl
-
-abbrev noShot : Bool → Rule
-noShot b = record { number = 7; broken = b }
-
-or-swap : (x y : Bool) → (x || y) ≡ (y || x)
-or-swap true true = refl
-or-swap true false = refl
-or-swap false true = refl
-or-swap false false = refl
-
-or-swap-first : (x y z : Bool) → (x || (y || z)) ≡ (y || (x || z))
-or-swap-first true true z = refl
-or-swap-first true false z = refl
-or-swap-first false true z = refl
-or-swap-first false false z = refl
 
 module _ (l : List ℤ) where
   module _ (a b c : ℕ) where
@@ -138,38 +123,46 @@ module _ (l : List ℤ) where
       let g = orientation-gives l a b c v in
       (λ e. let (k, q) = g .0 e in (k, sym o ∙ q), λ (k, q). g .1 (k, o ∙ q))
 
-  pub orientation-sign : (a b c : ℕ) (v : ℤ) → orientationOf l a b c ≡ gives v → orientOf l a b c ≡ signOf v
-  unfolding orientOf
-  orientation-sign a b c v e = ap signOf (given a b c e)
+  -- of an accepted patch
+  module _ (patch : Clear (shotLines l)) where
+    pub orientation-sign : (a b c : ℕ) → a < countOf l → b < countOf l → c < countOf l
+        → (v : ℤ) × (orientationOf l a b c ≡ gives v) × (orientOf l a b c ≡ signOf v) × (chirotope (patchOf l) (a ∷ b ∷ c ∷ []) ≡ signOf v)
+    unfolding orientOf
+    orientation-sign a b c an bn cn =
+        (areaOf l a b c, orientation-gives l a b c _ .1 (orientation-clear l a b c .1 (patch, (an, bn, cn)), refl), refl, sym (ap signOf (area-is-volume a b c)))
 
-  pub cocircuit-reads : (i j k : ℕ) (v : ℤ) → cocircuitOf l i j .answer ≡ gives tt → orientationOf l i j k ≡ gives v → getD (cocircuitOf l i j .signs) k (pos 0) ≡ value (signOf v)
-  unfolding signAt
-  cocircuit-reads i j k v e o =
-      let clear = cocircuit-gives l i j tt .0 e .0 in
-      let (patch, shots) = orientation-clear l i j k .0 (orientation-gives l i j k v .0 o .0) in
-      let few = patch-few l (shots-kept l .0 patch) .1 in
-      ap (λ (s : List ℤ). getD s k (pos 0)) (cocircuit-signs l i j clear) ∙ getD-tabulate (signAt l i j) shotsMost k (pos 0) (omega (arith, few, shots .2))
-      ∙ rw (lt-ltb k (countOf l) (shots .2)) (ap value (orientation-sign i j k v o))
+    pub cocircuit-reads : (i j k : ℕ) → i < j → j < countOf l → k < countOf l → (v : ℤ) × (orientationOf l i j k ≡ gives v) × (getD (cocircuitOf l i j .signs) k (pos 0) ≡ value (signOf v))
+    unfolding signAt
+    cocircuit-reads i j k ij jn kn =
+        let (v, o, s, _) = orientation-sign i j k (omega arith) jn kn in
+        let few = patch-few l (shots-kept l .0 patch) .1 in (
+          v,
+          o,
+          ap (λ (s : List ℤ). getD s k (pos 0)) (cocircuit-signs l i j (cocircuit-clear l i j .1 (patch, (ij, jn)))) ∙ getD-tabulate (signAt l i j) shotsMost k (pos 0) (omega (arith, few, kn))
+              ∙ rw (lt-ltb k (countOf l) kn) (ap value s),
+        )
 
-  -- the opposite number behind rules that say the same
-  turned : {r s : Rule} {x : ℤ} (y : ℤ) → r ≡ s → x ≡ negℤ y → chain (shotRules l ++ r ∷ []) x ≡ onValue negℤ (chain (shotRules l ++ s ∷ []) y)
-  turned {r} {s} {x} y e o = (λ t. chain (shotRules l ++ e t ∷ []) (o t)) ∙ sym (on-value-chain negℤ (shotRules l ++ s ∷ []) y)
+  -- two shots exchanged: the tests of the numbers say the same, and the area is the opposite
+  opposite-answer : {p q : Bool} {x : ℤ} (y : ℤ) → p ≡ q → x ≡ negℤ y
+      → chain (shotRules l ++ record { number = 7; broken = p } ∷ []) x ≡ onValue negℤ (chain (shotRules l ++ record { number = 7; broken = q } ∷ []) y)
+  opposite-answer {p} {q} {x} y e o = (λ t. chain (shotRules l ++ record { number = 7; broken = e t } ∷ []) (o t)) ∙ sym (on-value-chain negℤ (shotRules l ++ record { number = 7; broken = q } ∷ []) y)
+
+  -- a number that is not a shot
+  out : ℕ → Bool
+  out i = leb (countOf l) i
 
   pub orientation-swap : (a b c : ℕ) → orientationOf l a c b ≡ onValue negℤ (orientationOf l a b c)
-  unfolding orientationOf
-  orientation-swap a b c = turned (areaOf l a b c) (ap noShot (ap (_||_ (leb (countOf l) a)) (or-swap (leb (countOf l) c) (leb (countOf l) b)))) (area-swap a b c)
+  unfolding orientationOf out
+  orientation-swap a b c = opposite-answer (areaOf l a b c) (ap (_||_ (out a)) (or-swap (out c) (out b))) (area-swap a b c)
 
   pub orientation-swap-first : (a b c : ℕ) → orientationOf l b a c ≡ onValue negℤ (orientationOf l a b c)
-  unfolding orientationOf
-  orientation-swap-first a b c = turned (areaOf l a b c) (ap noShot (or-swap-first (leb (countOf l) b) (leb (countOf l) a) (leb (countOf l) c))) (area-swap-first a b c)
+  unfolding orientationOf out
+  orientation-swap-first a b c = opposite-answer (areaOf l a b c) (or-swap-first (out b) (out a) (out c)) (area-swap-first a b c)
 
   pub orientation-swap-ends : (a b c : ℕ) → orientationOf l c b a ≡ onValue negℤ (orientationOf l a b c)
-  unfolding orientationOf
+  unfolding orientationOf out
   orientation-swap-ends a b c =
-      let p : Bool = leb (countOf l) a in
-      let q : Bool = leb (countOf l) b in
-      let r : Bool = leb (countOf l) c in
-      turned (areaOf l a b c) (ap noShot (or-swap-first r q p ∙ ap (_||_ q) (or-swap r p) ∙ or-swap-first q p r)) (area-cycle c b a ∙ area-swap-first a b c)
+      opposite-answer (areaOf l a b c) (or-swap-first (out c) (out b) (out a) ∙ ap (_||_ (out b)) (or-swap (out c) (out a)) ∙ or-swap-first (out b) (out a) (out c)) (area-cycle c b a ∙ area-swap-first a b c)
 
   pub orientation-repeated : (a b c : ℕ) → (a ≡ b) ⊎ ((b ≡ c) ⊎ (a ≡ c)) → (v : ℤ) → orientationOf l a b c ≡ gives v → v ≡ pos 0
   orientation-repeated a b c h v e = sym (given a b c e) ∙ area-repeated a b c h

@@ -5,22 +5,20 @@
 --   shots-kept                                               no line of the shots holds exactly when the number that refuses the run is 0
 --   accept-refuses, orientation-refuses, double-area-refuses, cocircuit-refuses, border-refuses
 --   accept-gives, orientation-gives, double-area-gives, cocircuit-gives, border-gives
---   orientation-clear                                        no line holds exactly for three shots of an accepted patch
---   double-area-chain                                        the size of what a chain gives is given by that chain
+--   orientation-clear, cocircuit-clear                       no line holds exactly for three shots of an accepted patch, for a pair i < j of its shots
 --   cocircuit-signs, cocircuit-refused                       the array beside the answer
 --   accept-one, orientation-one, double-area-one, cocircuit-one, border-one    two permitted answers are the same
 --   counted-one                                              what is read as one count is one answer
-use mathlib.Core.Path.{_≡_, refl, sym, _∙_, ap}
+use mathlib.Core.Path.{_≡_, refl, _∙_, ap}
 use mathlib.Core.Logic.{_⊎_, inl, inr, ⊎-elim, _↔_}
 use mathlib.Core.List.{List, [], _∷_, _++_}
-use Prim.Native.Nat.{ℕ, _<_}
+use Prim.Native.Nat.{ℕ, _≤_, _<_}
 use native.Mathlib.Omega.{arith}
-use native.Mathlib.Decide.{decLt}
 use lib.ListN.{replicate}
 use lib.IntN.{ℤ, pos, natAbs}
-use Rattle.algebra.specs.Answer.{Answer, gives, refuses, chain, First, Clear, Decides}
+use Rattle.algebra.specs.Answer.{Answer, gives, refuses, First, Clear, Decides}
 use Rattle.algebra.specs.Loops.{tabulate, tally}
-use Rattle.algebra.proofs.AnswerLaws.{chain-refuses, chain-gives, on-value-chain, clear-refusal, clear-append, one-answer, decides-append, reflects-or, reflects-leb}
+use Rattle.algebra.proofs.AnswerLaws.{chain-refuses, chain-gives, on-value-refuses, on-value-gives, clear-refusal, clear-append, one-answer, decides-append, reflects-or, reflects-leb}
 use Rattle.shots.specs.Sizes.{shotsMost}
 use Rattle.shots.specs.Coordinates.{areaOf}
 use Rattle.shots.specs.Patch.{countOf}
@@ -55,6 +53,24 @@ module _ (l : List ℤ) where
       decides-append (shotRules l) (pairRule l i j ∷ []) (shotLines l) (record { number = 7; when = NotPair l i j } ∷ []) shots-decided
       (refl, reflects-or (reflects-leb (countOf l) i) (reflects-or (reflects-leb (countOf l) j) (reflects-leb j i)), tt)
 
+  -- a number that is a shot
+  below : (i : ℕ) → (NotShot l i → ⊥) → i < countOf l
+  below i h = omega arith
+
+  pub orientation-clear : (a b c : ℕ) → Clear (orientationLines l a b c) ↔ (Clear (shotLines l) × ((a < countOf l) × (b < countOf l) × (c < countOf l)))
+  orientation-clear a b c =
+      let s = clear-append (shotLines l) (record { number = 7; when = NotShot l a ⊎ (NotShot l b ⊎ NotShot l c) } ∷ []) in (
+        λ h. let (k, (n, _)) = s .0 h in (k, (below a (λ x. n (inl x)), below b (λ x. n (inr (inl x))), below c (λ x. n (inr (inr x))))),
+        λ (k, (p, q, r)). s .1 (k, (⊎-elim (λ h. omega arith) (⊎-elim (λ h. omega arith) (λ h. omega arith)), tt)),
+      )
+
+  pub cocircuit-clear : (i j : ℕ) → Clear (cocircuitLines l i j) ↔ (Clear (shotLines l) × ((i < j) × (j < countOf l)))
+  cocircuit-clear i j =
+      let s = clear-append (shotLines l) (record { number = 7; when = NotPair l i j } ∷ []) in (
+        λ h. let (k, (n, _)) = s .0 h in (k, (let o : (j ≤ i → ⊥) = λ x. n (inr (inr x)) in omega arith, below j (λ x. n (inr (inl x))))),
+        λ (k, (p, q)). s .1 (k, (⊎-elim (λ h. omega arith) (⊎-elim (λ h. omega arith) (λ h. omega arith)), tt)),
+      )
+
   -- ---- accept
 
   pub accept-refuses : (n : ℕ) → (acceptOf l ≡ refuses n) ↔ First n (shotLines l)
@@ -75,39 +91,21 @@ module _ (l : List ℤ) where
   unfolding orientationOf
   orientation-gives a b c v = chain-gives _ (orientationLines l a b c) _ v (orientation-decided a b c)
 
-  -- it gives the area of any three shots of an accepted patch, and of those alone
-  pub orientation-clear : (a b c : ℕ) → Clear (orientationLines l a b c) ↔ (Clear (shotLines l) × ((a < countOf l) × (b < countOf l) × (c < countOf l)))
-  orientation-clear a b c = (out, λ (k, (p, q, r)). joined .1 (k, (⊎-elim (λ h. omega arith) (⊎-elim (λ h. omega arith) (λ h. omega arith)), tt)))
-    where
-      joined : Clear (orientationLines l a b c) ↔ (Clear (shotLines l) × Clear (record { number = 7; when = NotShot l a ⊎ (NotShot l b ⊎ NotShot l c) } ∷ []))
-      joined = clear-append (shotLines l) (record { number = 7; when = NotShot l a ⊎ (NotShot l b ⊎ NotShot l c) } ∷ [])
-
-      below : (i : ℕ) → (NotShot l i → ⊥) → Dec (i < countOf l) → i < countOf l
-      below i h (yes k) = k
-      below i h (no k) = absurd (h (omega arith))
-
-      out : Clear (orientationLines l a b c) → Clear (shotLines l) × ((a < countOf l) × (b < countOf l) × (c < countOf l))
-      out h =
-          let (k, s) = joined .0 h in
-          (k, (below a (λ x. s .0 (inl x)) (decLt a (countOf l)), below b (λ x. s .0 (inr (inl x))) (decLt b (countOf l)), below c (λ x. s .0 (inr (inr x))) (decLt c (countOf l))))
-
   -- ---- double area
 
-  pub double-area-chain : (a b c : ℕ) → doubleAreaOf l a b c ≡ chain (shotRules l ++ shotsRule l a b c ∷ []) (natAbs (areaOf l a b c))
-  unfolding doubleAreaOf orientationOf
-  double-area-chain a b c = on-value-chain natAbs (shotRules l ++ shotsRule l a b c ∷ []) (areaOf l a b c)
-
   pub double-area-refuses : (a b c n : ℕ) → (doubleAreaOf l a b c ≡ refuses n) ↔ First n (orientationLines l a b c)
+  unfolding doubleAreaOf
   double-area-refuses a b c n =
-      let s = double-area-chain a b c in
-      let k = chain-refuses _ (orientationLines l a b c) (natAbs (areaOf l a b c)) n (orientation-decided a b c) in
-      (λ e. k .0 (sym s ∙ e), λ f. s ∙ k .1 f)
+      let s = on-value-refuses natAbs (orientationOf l a b c) n in
+      let k = orientation-refuses a b c n in
+      (λ e. k .0 (s .0 e), λ f. s .1 (k .1 f))
 
   pub double-area-gives : (a b c v : ℕ) → (doubleAreaOf l a b c ≡ gives v) ↔ (Clear (orientationLines l a b c) × (natAbs (areaOf l a b c) ≡ v))
+  unfolding doubleAreaOf
   double-area-gives a b c v =
-      let s = double-area-chain a b c in
-      let k = chain-gives _ (orientationLines l a b c) (natAbs (areaOf l a b c)) v (orientation-decided a b c) in
-      (λ e. k .0 (sym s ∙ e), λ f. s ∙ k .1 f)
+      let s = on-value-gives natAbs (orientationOf l a b c) v in
+      let k = orientation-gives a b c in
+      (λ e. let (x, o, q) = s .0 e in let (h, r) = k x .0 o in (h, ap natAbs r ∙ q), λ (h, q). s .1 (areaOf l a b c, k (areaOf l a b c) .1 (h, refl), q))
 
   -- ---- cocircuit
 

@@ -6,7 +6,7 @@
 --   orientationOf l a b c   the double area of three shots, with its sign; or 1-4, 7
 --   doubleAreaOf l a b c    the size of what `orientation` gives; or its refusal
 --   Cocircuit            the answer of `cocircuit`, and the places of the array beside it
---   cocircuitOf l i j    the sign of (i, j, k) at each shot k and 0 past them; or 1-4, 7, and 0 everywhere
+--   cocircuitOf l i j    the sign of what `orientation` gives for (i, j, k) at each shot k and 0 past them; or 1-4, 7, and 0 everywhere
 --   borderCallOf l       the number of sides; or 1-4
 --   shotsRule l a b c, pairRule l i j    7: one of three numbers is not a shot; not a pair i < j of shots
 --   signAt l i j k, signsWith a s        the sign of place k in the cocircuit of i, j; the array that goes with an answer

@@ -1,4 +1,4 @@
-// Areas and signs of shots that are known to be there and near. The double area with its sign, what the call `orientation` gives, is the core: every sign and every size is taken of it.
+// Areas and signs of shots that are known to be there and near. The double area with its sign, what the call `orientation` gives, is the core: every sign and every size of three shots is taken of it. `between` alone has another product.
 ghost use mathlib.Core.Path.{_≡_};
 ghost use Prim.Native.Nat.{_*_, _≤_, _<_};
 ghost use lib.ListN.{length, getD};
@@ -71,13 +71,14 @@ pub fn sign(shots: &[i32], a: usize, b: usize, c: usize) -> i8
     sign_of(area(shots, a, b, c))
 }
 
-// How far a number is from 0, the least one too.
+// How far a number is from 0. By way of -1 - x, since 0 - x does not fit for the least number.
 pub fn size_of(x: i64) -> u64
     ensures { λ r. ⌜ r ≡ natAbs x ⌝ }
 {
     if x < 0 { (-1 - x) as u64 + 1 } else { x as u64 }
 }
 
+// The size of the double area of three shots.
 pub fn size(shots: &[i32], a: usize, b: usize, c: usize) -> u64
     requires { ⌜ (a < countOf (now shots)) × (b < countOf (now shots)) × (c < countOf (now shots)) × Near (now shots) ⌝ }
     ensures { λ r. ⌜ r ≡ natAbs (areaOf (now (shots .entry)) a b c) ⌝ }

@@ -1,10 +1,10 @@
--- The double area of a list is the sum of the sizes of what `orientation` gives for its triples (document 02, E6).
+-- The double area of a list over an accepted patch is the sum of the sizes of what `orientation` gives for its triples (document 02, E6).
 --
 --   Triple n t         t is a triple of the first n shots
 --   pick-sum           a sum over different triples, as one over all ranks
 --   size-volume        the double area of a triple is the size of its volume
---   triple-called      `orientation` gives the volume of a triple of an accepted patch
---   area-sum-says      what is summed is that sum, and no other number is
+--   triple-called      `orientation` gives the volume of a triple of the list
+--   area-sum-says      `areaSumOf` is that sum, and no other number is
 use mathlib.Core.Path.{_≡_, refl, sym, _∙_, ap, subst}
 use mathlib.Core.Logic.{_↔_}
 use mathlib.Core.Bool.{Bool, true, false, cond, _||_}
@@ -85,7 +85,7 @@ module _ (l : List ℤ) (patch : Clear (shotLines l)) (w : List ℕ) where
   abbrev n : ℕ
   n = countOf l
 
-  pub triple-called : (t : List ℕ) → Listed (countOf l) w t → (i : ℕ) × (j : ℕ) × (k : ℕ) × (t ≡ i ∷ j ∷ k ∷ []) × (orientationOf l i j k ≡ gives (volume (patchOf l) t))
+  triple-called : (t : List ℕ) → Listed (countOf l) w t → (i : ℕ) × (j : ℕ) × (k : ℕ) × (t ≡ i ∷ j ∷ k ∷ []) × (orientationOf l i j k ≡ gives (volume (patchOf l) t))
   triple-called t m = go t (m .3) (listed-triple n w t m .1)
     where
       go : (s : List ℕ) → tripleAt n (m .0) ≡ s → length s ≡ 3 → (i : ℕ) × (j : ℕ) × (k : ℕ) × (s ≡ i ∷ j ∷ k ∷ []) × (orientationOf l i j k ≡ gives (volume (patchOf l) s))

@@ -4,7 +4,7 @@
 --   areaSumOf l w      the double areas of the triples of the list w, summed
 --   SumOfSizes l w v   so in the words of document 02: v is the sum of the sizes of what `orientation` gives, over the triples of the list w, each once
 --
--- src/areas.rt sums it; theorems: proofs/AreaSums (`area-sum-says`: both are the same), proofs/AreaKept (`flip-keeps-area`). Source: document 01, "Shots and orientation", "The square with its centre"; document 02, E6.
+-- src/areas.rt sums it; theorems: proofs/AreaSums (`area-sum-says`: of an accepted patch both are one), proofs/AreaKept (`flip-keeps-area`). Source: document 01, "Shots and orientation", "The square with its centre"; document 02, E6.
 use mathlib.Core.Path.{_≡_}
 use mathlib.Core.Logic.{_↔_}
 use mathlib.Core.Bool.{cond}

@@ -5,7 +5,7 @@
 --   reach-published      so what is reached by the one is what is reached by the other
 --   reach-bare           and by published flips of whose results nothing is asked
 --   walk-passes          a table and a record that an accepted start and its walk's steps and runs have written pass the first tests of a step
---   refused-full         and where a step over them is refused, it is for want of a row: 11
+--   refused-full         and 11 is the one number that refuses a step over them: there is no row for a new surface
 --   walk-surfaces        a table and a record that an accepted start and its walk's steps and runs have written: the demand's conclusions
 --   walk-whole           where its walk is done, its rows are what flips reach of whose results nothing is asked
 --   demand-3             the same of what the calls left: an accepted `start`, and then `step` and `run`
@@ -13,19 +13,19 @@
 -- For any flip: reach/proofs/Theorem. Source: demand 3; document 01, "The walk".
 use mathlib.Core.Path.{_≡_, refl, sym, _∙_, ap, subst}
 use mathlib.Core.Logic.{inl, inr, ⊎-elim, _↔_}
-use mathlib.Core.List.{List, [], _∷_, _++_}
+use mathlib.Core.List.{List}
 use Prim.Native.Nat.{ℕ, _*_, _/_, _<_, _≤_}
 use native.Mathlib.Omega.{arith}
 use lib.ListN.{length}
 use lib.IntN.{ℤ}
-use Rattle.algebra.specs.Answer.{gives, Line, First, Clear}
+use Rattle.algebra.specs.Answer.{gives, refuses, Clear}
 use Rattle.algebra.specs.Words.{Words, rowOf}
-use Rattle.algebra.proofs.AnswerLaws.{first-clear, first-append, clear-append}
-use Rattle.reach.specs.Walks.{WalkRecord, Begun, started, Reply, Landing, leaves, capacityOf, startOf}
-use Rattle.reach.specs.Lines.{during, Impossible, Ahead, Flips, New, Full}
+use Rattle.reach.specs.Walks.{WalkRecord, Begun, started, Reply, Landing, leaves, capacityOf, stepOf, startOf}
+use Rattle.reach.specs.Lines.{Impossible, Ahead, rowAt}
 use Rattle.reach.specs.Reach.{Reach, Along, Stands}
 use Rattle.reach.specs.Walked.{FlipsTo, Sound, Walked, starts, steps, runs, moves, Listing, Ends}
 use Rattle.reach.proofs.ReachLaws.{reach-as, tried-row, tried-all}
+use Rattle.reach.proofs.LineLaws.{walk-clear, step-full}
 use Rattle.reach.proofs.Theorem.{walk-tested, walked-run, walk-listing, row-kept, walk-ends, lastOf, ends-from-start}
 use Rattle.shots.specs.Patch.{countOf}
 use Rattle.shots.specs.Tests.{refusalOf}
@@ -44,13 +44,14 @@ use Rattle.lists.proofs.Agreement.{accepted-iff-triangulation}
 use Rattle.surfaces.proofs.Promises.{flip-accepted, flip-published, flip-any, flip-words}
 use Rattle.surfaces.proofs.AreaKept.{flip-keeps-area}
 use Rattle.walks.specs.Calls.{groundOf, readWalk, walkAs, startLanding, startCallOf}
-use Rattle.walks.specs.Lines.{linesOf, walkLines, stepLines}
+use Rattle.walks.specs.Lines.{walkLines}
 use Rattle.walks.specs.Surfaces.{PublishedFlip, Reachable}
 use Rattle.walks.specs.Reached.{BareFlip, BareReach}
 use Rattle.walks.specs.Demand.{Later, at-once, by-step, by-run, moved, StepsMade, StepDone, NoStepRefused, HoldsAll, Demand-3}
 use Rattle.walks.specs.declared.Walk.{Walk}
 use Rattle.walks.specs.declared.Started.the-variants as B
 use Rattle.walks.proofs.StepsLaws.{flip-keeps}
+use Rattle.walks.proofs.Promises.{patch-lined}
 
 -- ---- the ground of a patch
 
@@ -109,13 +110,6 @@ module _ (l : List ℤ) (c : Clear (shotLines l)) where
 
 -- ---- what a walk has written
 
--- of lines that hold only where A does, with all but the last then ruled out, it is the last
-last-during : {A : Type 0} (m : ℕ) (ls : List Line) (x : Line) → (A → Clear ls) → First m (during A (ls ++ x ∷ [])) → m ≡ x .number
-last-during m [] x c (inl p) = p .1
-last-during m [] x c (inr p) = absurd (p .1)
-last-during m (y ∷ ls) x c (inl p) = absurd (c (p .0 .0) .0 (p .0 .1))
-last-during m (y ∷ ls) x c (inr p) = last-during m ls x (λ a. c a .1) (p .1)
-
 module _ (l : List ℤ) (w₀ : List ℕ) (v₀ : Words wordCount w₀) where
   abbrev WalkedTo : List ℕ → Walk → Type 0
   WalkedTo u v = Walked (groundOf l) w₀ u (readWalk v)
@@ -137,34 +131,25 @@ module _ (l : List ℤ) (w₀ : List ℕ) (v₀ : Words wordCount w₀) where
   rows-kept h = row-kept (patch-sound l) w₀ (v₀ .0) h (λ w. Accepted l w × Words wordCount w × (areaSumOf l w ≡ areaSumOf l w₀))
       (λ w w′ z _ (a, x, q) m e. (flip-accepted l w w′ z (x .0) e, flip-words l w w′ z (x .0) e, flip-keeps-area l w w′ z x e ∙ q)) (first-row h .1, v₀, refl)
 
-  -- where it is refused
+  possible-there : {u : List ℕ} {w : WalkRecord} → Walked (groundOf l) w₀ u w → (0 < w .rows) × (w .rows ≤ capacityOf wordCount (length u)) × (w .step ≤ w .rows * length (circuitsOf l))
+  possible-there h = walk-listing (patch-sound l) w₀ (v₀ .0) h .possible
+
+  -- a step passes its first tests, and is refused for want of a row alone
   pub walk-passes : {u : List ℕ} {w : WalkRecord} → Walked (groundOf l) w₀ u w → Clear (walkLines l u w)
-  walk-passes {u} {w} h = clear-append (shotLines l) (record { number = 15; when = Impossible (groundOf l) u w } ∷ []) .1 (first-row h .0, (possible, tt))
+  walk-passes {u} {w} h = walk-clear (patch-lined l) u w .1 (first-row h .0, possible)
     where
-      facts : (0 < w .rows) × (w .rows ≤ capacityOf wordCount (length u)) × (w .step ≤ w .rows * length (circuitsOf l))
-      facts = walk-listing (patch-sound l) w₀ (v₀ .0) h .possible
-
       possible : Impossible (groundOf l) u w → ⊥
-      possible (inl e) = omega (arith, facts .0)
-      possible (inr (inl e)) = omega (arith, facts .1)
-      possible (inr (inr e)) = omega (arith, facts .2)
+      possible (inl e) = omega (arith, possible-there h .0)
+      possible (inr (inl e)) = omega (arith, possible-there h .1)
+      possible (inr (inr e)) = omega (arith, possible-there h .2)
 
-  pub refused-full : (u : List ℕ) (w : WalkRecord) → Walked (groundOf l) w₀ u w → (m : ℕ) → First m (stepLines l u w) → m ≡ 11
-  refused-full u w h m f =
-      ⊎-elim (λ g. first-clear m (walkLines l u w) g (walk-passes h)) (λ (_, g). last-during m (listLines l row) last row-clear g)
-      (first-append m (walkLines l u w) (during (Ahead (groundOf l) w) (listLines l row ++ last ∷ [])) .0 f)
+  pub refused-full : (u : List ℕ) (w : WalkRecord) → Walked (groundOf l) w₀ u w → (m : ℕ) → stepOf (groundOf l) u w .answer ≡ refuses m → m ≡ 11
+  refused-full u w h = step-full (patch-lined l) u w (walk-passes h) tried
     where
-      -- the row that is tried
-      row : List ℕ
-      row = rowOf wordCount u (w .step / length (circuitsOf l))
-
-      last : Line
-      last = record { number = 11; when = Flips (groundOf l) (linesOf l) u w × New (groundOf l) (linesOf l) u w × Full (groundOf l) u w }
-
-      row-clear : (w .step ≡ w .rows * length (circuitsOf l) → ⊥) → Clear (listLines l row)
-      row-clear ahead =
-          let p = walk-listing (patch-sound l) w₀ (v₀ .0) h .possible in
-          accepted-iff-triangulation l row .1 (rows-kept h (w .step / length (circuitsOf l)) (tried-row (w .rows) (w .step) (length (circuitsOf l)) (omega arith)) .0)
+      -- the row that is tried is accepted
+      tried : Ahead (groundOf l) w → Clear (listLines l (rowAt (groundOf l) u w))
+      tried ahead = accepted-iff-triangulation l (rowAt (groundOf l) u w) .1
+          (rows-kept h (w .step / length (circuitsOf l)) (tried-row (w .rows) (w .step) (length (circuitsOf l)) (omega (arith, possible-there h .2))) .0)
 
   -- where it ends
   module _ (u : List ℕ) (v : Walk) (h : WalkedTo u v) where
@@ -210,13 +195,13 @@ module _ (l : List ℤ) (w₀ : List ℕ) (v₀ : Words wordCount w₀) where
       whole = all-held h;
       reached = λ p m. reach-listed h (rowOf wordCount u p) .0 (listing .reached p m);
       once = listing .once;
-      accepted = λ p m. kept p m .0;
+      accepted = λ p m. rows-kept h p m .0;
       first = listing .first;
-      one-area = λ p m. kept p m .2;
+      one-area = λ p m. rows-kept h p m .2;
       neighbours = λ p w a (X, x, f, v′, a′).
           let (i, g, _) = circuit-given l (first .0) X x in
           let m = number-signs l X i g .0 in
-          let (good, words, _) = kept p (tried-all p (v .rows) (v .step) (length (circuitsOf l)) (omega arith) a (listing .possible .2)) in
+          let (good, words, _) = rows-kept h p (tried-all p (v .rows) (v .step) (length (circuitsOf l)) (omega arith) a (possible-there h .2)) in
           let (z, k, e) = flip-is-published l (first .0) (rowOf wordCount u p) w good words .1 (X, x, f, v′, a′) in
           listing .neighbours p z w a k e;
     }
@@ -226,9 +211,6 @@ module _ (l : List ℤ) (w₀ : List ℕ) (v₀ : Words wordCount w₀) where
 
         first : Clear (shotLines l) × Accepted l w₀
         first = first-row h
-
-        kept : (p : ℕ) → p < v .rows → Accepted l (rowOf wordCount u p) × Words wordCount (rowOf wordCount u p) × (areaSumOf l (rowOf wordCount u p) ≡ areaSumOf l w₀)
-        kept = rows-kept h
 
   pub walk-whole : (u : List ℕ) (w : WalkRecord) → Walked (groundOf l) w₀ u w → w .step ≡ w .rows * length (circuitsOf l) → (w′ : List ℕ) → Stands wordCount u (w .rows) w′ ↔ BareReach l w₀ w′
   walk-whole u w h e w′ = let (c, a) = first-row h in let s = all-held h e w′ in let b = reach-bare l c w₀ a v₀ w′ in (λ x. b .0 (s .0 x), λ x. s .1 (b .1 x))

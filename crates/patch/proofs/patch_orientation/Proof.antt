@@ -14,7 +14,7 @@ returns c = returned readOriented _ (c .before .number .given .1) (c .before .be
 returns-2 : tie.Need-returns-2
 returns-2 c =
     let p = c .before .before .before in
-    let e = returned readOriented (p .before .args .area .now) (c .before .signed .given .1) (p .orientation .ensures) in
+    let e = returned readOriented (p .before .args .signed .now) (c .before .x .given .1) (p .orientation .ensures) in
     (e .0, read-back w64 _ (c .known-told2 .given .0 .1) (e .1))
 
 pub patch-orientation-spec : {M : Type 1} → statement M
