@@ -51,7 +51,7 @@ use Rattle.text.specs.Lines.{Put, patchLine, rowLine, lastLine, refusedLine}
 use Rattle.report.specs.Sizes.{tableWords, stepsMost}
 use Rattle.report.specs.Report.{noWalk, begunOf, walkOf, firstLine, lineAt, surfacesText, endText, endOf, walkText, placedText, patchText, reportOf}
 use Rattle.report.specs.Report.{refusedFind, walkFind, placedFind, patchFind, findOf, lineCount, lineOf}
-use Rattle.report.specs.Fields.{Begins}
+use Rattle.report.specs.FirstLines.{FirstLines}
 use Rattle.report.proofs.WalkLaws.{placing-tested, begun-started, walk-walked, rows-fit, walk-not-made, walk-full}
 use Rattle.report.proofs.LineLaws.{lines-refused, lines-end}
 
@@ -139,7 +139,7 @@ module _ (l : List ℤ) (w : List ℕ) (placed : placingOf l ≡ gives w) where
       (λ k. firstLine l (report-surfaces .first k) ++ (first-row k ++ last))
       ∙ ap (λ (s : List ℕ). firstLine l w ++ s) (append-assoc (rowLine (countOf l) 0 w) (over (lineAt (countOf l) (walkOf l w .table)) 1 (walkOf l w .walk .rows)) last)
 
-pub report-begins : (b : List ℕ) (n : ℕ) → readPatchOf b .answer ≡ gives n → Begins b n
+pub report-begins : (b : List ℕ) (n : ℕ) → readPatchOf b .answer ≡ gives n → FirstLines b n
 unfolding firstLine
 report-begins b n e =
     let l : List ℤ = coordinatesOf b in

@@ -1,3 +1,3 @@
 pub mod Sizes
 pub mod Report
-pub mod Fields
+pub mod FirstLines

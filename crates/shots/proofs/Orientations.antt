@@ -7,7 +7,7 @@
 --   right-is-left                                what lies right of a pair lies left of the pair turned
 --   between-says                                 of three shots on a line, which of them lies between the others
 --   orientation-agrees                           what `orientation` gives is the determinant
---   orientation-sign                             of three shots of an accepted patch: what the rooms above read, and the chirotope, is the sign of the number that `orientation` gives
+--   orientation-sign                             of three shots of an accepted patch: what the rooms above read and the chirotope are the sign of the number that `orientation` gives
 --   cocircuit-reads                              so is the sign that `cocircuit` gives for a pair at each shot
 --   orientation-swap, orientation-swap-first, orientation-swap-ends    two shots exchanged: the opposite number, or the same refusal
 --   orientation-repeated                         0 for shots not all different

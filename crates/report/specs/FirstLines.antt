@@ -1,6 +1,6 @@
--- What the report of an accepted record begins with, in the words of the calls.
+-- The first two lines of the report of an accepted record, in the words of the calls.
 --
---   Begins b n   of the bytes b, in which the call `read_patch` finds n shots, the report begins with the first line and then the line of row 0:
+--   FirstLines b n   of the bytes b, in which the call `read_patch` finds n shots, the report begins with the first line and then the line of row 0:
 --     text         the whole text, `rest` behind these two lines. The field `patch` is n
 --     row          row 0 is the placing surface
 --     circuits     the field `circuits` has the number that the call `circuits::count` gives
@@ -20,7 +20,7 @@ use Rattle.records.specs.Reading.{coordinatesOf}
 use Rattle.text.specs.Lines.{patchLine, rowLine}
 use Rattle.report.specs.Report.{reportOf}
 
-pub record Begins (b : List ℕ) (n : ℕ) : Type 0 where
+pub record FirstLines (b : List ℕ) (n : ℕ) : Type 0 where
   pub row : List ℕ
   pub circuits : ℕ
   pub sides : ℕ
