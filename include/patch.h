@@ -91,7 +91,7 @@ uint8_t patch_accept(const int32_t *shots, size_t length);
    0 on a line and for shots that are not all different. Refused: 1 2 3 4, 7 (one of them is not a shot). */
 uint8_t patch_orientation(const int32_t *shots, size_t length, size_t a, size_t b, size_t c, int64_t *signed_area);
 
-/* *area: its size, twice the area of the triangle in square millimetres. Refused: 1 2 3 4, 7 (one of them is not a shot). */
+/* *area: the size of what patch_orientation gives, so twice the area of the triangle. Refused: 1 2 3 4, 7 (one of them is not a shot). */
 uint8_t patch_double_area(const int32_t *shots, size_t length, size_t a, size_t b, size_t c, uint64_t *area);
 
 /* signs[k]: for each shot k the sign of what patch_orientation gives for i, j, k: -1, 0 or 1; 0 past the shots. Refused: 1 2 3 4, 7 (not a pair
