@@ -51,18 +51,18 @@ module _ (n : ℕ) (P : Points) (ds : Distinct n P) where
     flat : (a b c : ℕ) → On a → On b → On c → Aligned P a b c
     flat a b c ea eb ec = zero-of-mul not-nought (turn-along P p q a b c ea eb ∙ mul-zero (way b -ℤ way a) ec)
 
-    -- a scalar product by how way its points are along the line
+    -- a scalar product by how far its points are along the line
     ways : (m a b : ℕ) → On m → On a → On b → way q *ℤ dot (P m) (P a) (P b) ≡ (way a -ℤ way m) *ℤ (way b -ℤ way m)
     ways m a b em ea eb =
         ring (coordinates (P p ∷ P q ∷ P m ∷ P a ∷ P b ∷ [])) (O 0 1 1 ⊗ O 2 3 4)
         ((O 0 3 1 ⊝ O 0 2 1) ⊗ (O 0 4 1 ⊝ O 0 2 1) ⊕ ((D 0 1 4 ⊝ D 0 1 2) ⊗ D 0 1 3 ⊕ neg (D 0 1 4 ⊝ D 0 1 2) ⊗ D 0 1 2)) tt
         ∙ ap (λ z. (way a -ℤ way m) *ℤ (way b -ℤ way m) +ℤ z) (both-zero (turnAt P p q b -ℤ turnAt P p q m) (negℤ (turnAt P p q b -ℤ turnAt P p q m)) ea em) ∙ +ℤ-idr _
 
-    -- two points of the line are not equally way
+    -- two points of the line are not equally far along it
     apart : (a b : ℕ) → a < n → b < n → (a ≡ b → ⊥) → On a → On b → NZ (way b -ℤ way a)
     apart a b an bn ab ea eb z = differ a b an bn ab (sym (dot-zero (P a) (P b) (zero-of-mul not-nought (ways a b b ea eb eb ∙ mul-zero (way b -ℤ way a) z))))
 
-    -- ---- the two ends: the point of the line that is least way along it, and the one that is farthest
+    -- ---- the two ends: the point of the line that is least far along it, and the one that is farthest
 
     abbrev End : (ℕ → ℤ) → Type 0
     End f = Min f (λ _. pos 1) On n

@@ -1,13 +1,13 @@
 -- The first two lines of the report of an accepted record, in the words of the calls.
 --
---   FirstLines b n   of the bytes b, in which the call `read_patch` finds n shots, the report begins with the first line and then the line of row 0:
---     text         the whole text, `rest` behind these two lines. The field `patch` is n
---     row          row 0 is the placing surface
---     circuits     the field `circuits` has the number that the call `circuits::count` gives
---     sides        the field `border` that of the call `shots::border`
---     area         the field `area2` is the sum of the sizes of what the call `shots::orientation` gives, over the triples of row 0
+--   FirstLines b n   the report of the bytes b begins with the first line and then the line of row 0:
+--     text           the whole text, `rest` behind these two lines; the field `patch` is n
+--     row            row 0 is the placing surface
+--     circuits       the field `circuits` has the number that the call `circuits::count` gives
+--     sides          the field `border` that of the call `shots::border`
+--     area           the field `area2` is the sum of the sizes of what the call `shots::orientation` gives, over the triples of row 0
 --
--- Theorem: proofs/Promises (`report-begins`). Source: document 01, "The square with its centre"; document 02, E1, E6.
+-- Theorem: proofs/Promises (`report-begins`: so it is where the call `read_patch` gives n). Source: document 01, "The square with its centre"; document 02, E1, E6.
 use mathlib.Core.Path.{_≡_}
 use mathlib.Core.List.{List, _++_}
 use Prim.Native.Nat.{ℕ}

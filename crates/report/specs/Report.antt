@@ -6,7 +6,7 @@
 --   firstLine l w     the first line, where the first row is the list w
 --   lineAt n t p      the line of row p of the table t
 --   surfacesText l x d    the first line, the rows, and the last line: done, or full
---   endText l x a     so where the walk is complete (done) or the table full (11)
+--   endText l x a     so where the walk is complete (done) or the table full (11); where another number refused it, that number
 --   endOf l w, walkText l w    where the walk from w ends, and its text
 --   placedText l a    the walk from the placing surface; or the number that refuses it
 --   patchText l a     so for the patch that was read; or the number that refuses the record
