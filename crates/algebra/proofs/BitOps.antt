@@ -6,8 +6,11 @@
 --   or-set, and-clear            a bit is set by an or, cleared by an and with all bits but that one
 --   bit-set, bit-clear           the bits after one is set, cleared
 --   set-low, clear-low           w bits are enough for the result
+--   bit-high                     no bit is set past the width
 --   bit-none, zero-bits          no bit of 0 is set, and 0 alone has none
 --   inside-bits                  the and of x and y is x where y has every bit of x
+--   bit-shift                    the bits of a number that is shifted down
+--   lowest-bit                   below the lowest bit of x stand as many zeros as the machine counts
 --   lone-bit                     x and x - 1 have no bit in common where exactly one bit of x is set
 use mathlib.Core.Path.{_≡_, refl, sym, _∙_, ap, subst}
 use mathlib.Core.Bool.{Bool, true, false, not, cond, _||_, _&&_, true≢false, or-false, and-true, and-false}
@@ -17,6 +20,7 @@ use native.Mathlib.Omega.{arith}
 use native.Mathlib.Nat.{one-mul, mod-self, div-eq-of-lt, div-self, add-div-right, pow-suc}
 use native.Mathlib.Decide.{decLt}
 use lib.Dec.{eqb}
+use lib.Count.{trailingZeros, under}
 use lib.Bits.{bitAnd, bitOr, and-step, and-self, and-le-l, and-mask, and-high, and-shr, and-mod, or-add-and, or-shr, or-mod, or-lt}
 use lib.Pow.{pow-pos, pow-mono, pow-lt, pow-add, shl-exact, shl-shr, shr-shr}
 use borrow.Author.Tests.{eqb-true, eqb-false, eq-eqb, ne-eqb}
@@ -113,7 +117,7 @@ bit-not (suc w) y (suc j) h l =
 pow-above : (m j : ℕ) → 2 ^ (suc m + j) / 2 ^ j % 2 ≡ 0
 pow-above m j = ap (λ (x : ℕ). x / 2 ^ j % 2) (pow-add 2 (suc m) j) ∙ ap (λ (x : ℕ). x % 2) (shl-shr (2 ^ suc m) j) ∙ omega (arith, pow-suc 2 m)
 
-bit-high : (w x j : ℕ) → x < 2 ^ w → w ≤ j → bit x j ≡ false
+pub bit-high : (w x j : ℕ) → x < 2 ^ w → w ≤ j → bit x j ≡ false
 bit-high w x j h l = bit-zero x j (ap (λ (y : ℕ). y % 2) (div-eq-of-lt (let p = pow-mono l in omega arith)))
 
 bit-pow : (k j : ℕ) → bit (2 ^ k) j ≡ eqb j k
@@ -210,6 +214,41 @@ zero-bits w x h = go (any w (bit x)) refl
     go : (b : Bool) → any w (bit x) ≡ b → eqb x 0 ≡ not b
     go true e = ne-eqb x 0 (λ q. let r = any-some (bit x) w e in true≢false (sym (r .2) ∙ ap (λ (y : ℕ). bit y (r .0)) q ∙ bit-none (r .0)))
     go false e = eq-eqb x 0 (bits-same w x 0 h (pow-pos w) (λ j l. any-no (bit x) w j e l ∙ sym (bit-none j)))
+
+pub bit-shift : (x a j : ℕ) → bit (x / 2 ^ a) j ≡ bit x (a + j)
+unfolding bit
+bit-shift x a j = ap (λ (y : ℕ). eqb (y % 2) 1) (shr-shr x a j)
+
+-- ---- the lowest bit, of the w that the zeros are counted among
+
+trailing-none : (w x j : ℕ) → j < trailingZeros w x → bit x j ≡ false
+unfolding trailingZeros
+trailing-none zero x j h = absurd (omega arith)
+trailing-none (suc w) x j h = go (two x) j h (trailing-none w (x / 2))
+  where
+    go : (x % 2 ≡ 0) ⊎ (x % 2 ≡ 1) → (j : ℕ) → j < under (x % 2) (trailingZeros w (x / 2)) → ((i : ℕ) → i < trailingZeros w (x / 2) → bit (x / 2) i ≡ false) → bit x j ≡ false
+    go (inl e) zero l ih = bit-zero x 0 (omega arith)
+    go (inl e) (suc j) l ih = bit-half x j ∙ ih j (let z = rw e at l in omega arith)
+    go (inr e) j l ih = absurd (let z = rw e at l in omega arith)
+
+trailing-here : (w x : ℕ) → trailingZeros w x < w → bit x (trailingZeros w x) ≡ true
+unfolding trailingZeros
+trailing-here zero x h = absurd (omega arith)
+trailing-here (suc w) x h = go (two x) (trailing-here w (x / 2))
+  where
+    go : (x % 2 ≡ 0) ⊎ (x % 2 ≡ 1) → (trailingZeros w (x / 2) < w → bit (x / 2) (trailingZeros w (x / 2)) ≡ true) → bit x (under (x % 2) (trailingZeros w (x / 2))) ≡ true
+    go (inl e) ih = rw e (bit-half x (trailingZeros w (x / 2)) ∙ ih (let z = rw e at h in omega arith))
+    go (inr e) ih = rw e (bit-one x 0 (omega arith))
+
+pub lowest-bit : (w x : ℕ) → x < 2 ^ w → (x ≡ 0 → ⊥) → let t = trailingZeros w x in (t < w) × (bit x t ≡ true) × ((j : ℕ) → j < t → bit x j ≡ false)
+lowest-bit w x h ne = (low, trailing-here w x low, λ j l. trailing-none w x j l)
+  where
+    low : trailingZeros w x < w
+    low = go (decLt (trailingZeros w x) w)
+      where
+        go : Dec (trailingZeros w x < w) → trailingZeros w x < w
+        go (yes l) = l
+        go (no l) = absurd (ne (bits-same w x 0 h (pow-pos w) (λ j u. trailing-none w x j (omega arith) ∙ sym (bit-none j))))
 
 -- x has no bit that y lacks
 pub inside-bits : (w x y : ℕ) → x < 2 ^ w → eqb (bitAnd x y) x ≡ not (any w (λ j. bit x j && not (bit y j)))

@@ -12,6 +12,8 @@ pub mod SetLaws
 pub mod BitLaws
 pub mod BitOps
 pub mod SetTests
+pub mod ChooseLaws
+pub mod PlaceLaws
 pub mod UnionLaws
 pub mod TrioLaws
 pub mod WordLaws

@@ -5,6 +5,9 @@
 --   any-none, go-on, found, none             a loop that looks for one that passes
 --   every-none, every-on, every-broken, every-end   a loop that looks for one that does not pass
 --   first-none, first-on, first-found, first-end    a loop that looks for the first that passes
+--   from-is                                  the first from a number on
+--   Found f n P i                            a loop that goes from one that passes f to the next stands at i: below n, i passes and P is so up to i; past it, P is so up to n
+--   found-on, found-less                     it goes on from a number where P is so, over those that do not pass and leave P as it is; then less is left
 --   fold-none, fold-more, fold-end           a loop that builds a value
 --   tally-none, tally-more, tally-end        a loop that counts
 --   tally-turn                               where only what passes a test is counted, one term more
@@ -31,17 +34,17 @@ use mathlib.Core.Bool.{Bool, true, false, cond, not, _||_, _&&_, true≢false, o
 use mathlib.Core.Logic.{_⊎_, inl, inr, ⊎-elim}
 use mathlib.Core.List.{List, [], _∷_, _++_, map, append-assoc, append-nil, List·Memᴰ, List·Memᴰ·head, List·Memᴰ·tail, List·Memᴰ·cases-cons, List·Memᴰ·not-nil}
 use mathlib.Core.List.{List·Memᴰ·append-cases, List·Memᴰ·eq-of-singleton, Memᴰ·append-left, Memᴰ·append-right}
-use Prim.Native.Nat.{ℕ, zero, suc, _+_, _*_, _<_, _≤_}
+use Prim.Native.Nat.{ℕ, zero, suc, _+_, _*_, _-_, _<_, _≤_}
 use native.Mathlib.Omega.{arith}
 use native.Mathlib.Numerals.{add-one}
 use native.Mathlib.Decide.{decLt}
 use native.Mathlib.Nat.{not-suc-le-zero}
-use lib.Dec.{ltb, eqb}
+use lib.Dec.{ltb, leb, eqb}
 use lib.ListN.{length, getD, drop, set, length-append, drop-of-length-le, List·getD-append}
 use lib.Seq.{drop-cons, set-at, getD-at}
-use borrow.Author.Tests.{lt-ltb, le-ltb}
+use borrow.Author.Tests.{leb-true, lt-ltb, le-ltb, le-leb, lt-leb}
 use Rattle.algebra.specs.Answer.{Reflects, holds, fails}
-use Rattle.algebra.specs.Loops.{any, every, anyOf, first, fold, tally, sumOf, picks, tabulate}
+use Rattle.algebra.specs.Loops.{any, every, anyOf, first, firstFrom, fold, tally, sumOf, picks, tabulate}
 use Rattle.algebra.proofs.ListLaws.{Apart, Other, apart-append}
 use Rattle.algebra.proofs.AnswerLaws.{reflects-by, reflects-yes, reflects-no, reflects-true, reflects-stable, reflects-iff, reflects-not, reflects-or, reflects-and, reflects-eqb}
 
@@ -326,6 +329,66 @@ module _ (f : ℕ → Bool) where
       go (yes k) b e ih = ih (subst (λ (m : ℕ). i < m) (first-keeps n k) h)
       go (no k) true e ih = ih (let l = rw (le-ltb (first n f) n (omega arith), e) at h in let m = first-low n in omega arith)
       go (no k) false e ih = ⊎-elim (λ l. ih (let m = first-low n in omega arith)) (λ q. ap f q ∙ e) (last i n (rw (le-ltb (first n f) n (omega arith), e) at h))
+
+  first-past : (n : ℕ) → ((i : ℕ) → i < n → f i ≡ false) → first n f ≡ n
+  unfolding first
+  first-past zero h = refl
+  first-past (suc n) h = let e = first-past n (λ i l. h i (omega arith)) in rw (le-ltb (first n f) n (omega arith), h n (omega arith)) refl
+
+module _ (f : ℕ → Bool) (a n : ℕ) where
+  abbrev late : ℕ → Bool
+  late i = leb a i && f i
+
+  from-passes : firstFrom a n f < n → f (firstFrom a n f) ≡ true
+  unfolding firstFrom
+  from-passes h = and-parts (leb a (firstFrom a n f)) (f (firstFrom a n f)) (first-passes late n h) .1
+
+  from-low : a ≤ n → a ≤ firstFrom a n f
+  unfolding firstFrom
+  from-low h = go (decLt (firstFrom a n f) n)
+    where
+      go : Dec (firstFrom a n f < n) → a ≤ firstFrom a n f
+      go (yes l) = leb-true a (firstFrom a n f) (and-parts (leb a (firstFrom a n f)) (f (firstFrom a n f)) (first-passes late n l) .0)
+      go (no l) = omega arith
+
+  from-none : (i : ℕ) → a ≤ i → i < firstFrom a n f → f i ≡ false
+  unfolding firstFrom
+  from-none i h l = ap (λ (b : Bool). b && f i) (sym (le-leb a i h)) ∙ first-least late n i l
+
+  pub from-is : (i : ℕ) → i ≤ n → ((j : ℕ) → a ≤ j → j < i → f j ≡ false) → (i < n → (a ≤ i) × (f i ≡ true)) → i ≡ firstFrom a n f
+  unfolding firstFrom
+  from-is i h none here = go (decLt i n)
+    where
+      early : (j : ℕ) → Dec (j < a) → j < i → late j ≡ false
+      early j (yes l) u = ap (λ (b : Bool). b && f j) (lt-leb a j l)
+      early j (no l) u = ap (λ (b : Bool). b && f j) (le-leb a j (omega arith)) ∙ none j (omega arith) u
+
+      past : first i late ≡ i
+      past = first-past late i (λ j l. early j (decLt j a) l)
+
+      go : Dec (i < n) → i ≡ first n late
+      go (yes l) = let e = here l in first-found late n i l past refl (ap (λ (b : Bool). b && f i) (le-leb a i (e .0)) ∙ e .1)
+      go (no l) = first-end late n i h (omega arith) past
+
+-- a loop that goes from one that passes to the next, among the numbers below n; it looks as far as m
+abbrev pub Found : (ℕ → Bool) → ℕ → (ℕ → Type 0) → ℕ → Type 0
+Found f n P i = (i < n → (f i ≡ true) × P i) × (n ≤ i → P n)
+
+module _ (f : ℕ → Bool) (n m : ℕ) (h : n ≤ m) where
+  pub found-on : (P : ℕ → Type 0) (a : ℕ) {i : ℕ} → ((j : ℕ) → j < n → f j ≡ false → P j → P (j + 1)) → a ≤ n → P a → i ≡ firstFrom a m f → Found f n P i
+  found-on P a on l p e =
+      subst (Found f n P) (sym e)
+      (λ u. (from-passes f a m (omega arith), to (firstFrom a m f) (from-low f a m (omega arith)) (omega arith) (omega arith)), λ u. to n l (omega arith) u)
+    where
+      step : (d : ℕ) → a + d ≤ n → a + d ≤ firstFrom a m f → P (a + d)
+      step zero u v = subst P (let z : a ≡ a + 0 = omega arith in z) p
+      step (suc d) u v = subst P (let z : a + d + 1 ≡ a + suc d = omega arith in z) (on (a + d) (omega arith) (from-none f a m (a + d) (omega arith) (omega arith)) (step d (omega arith) (omega arith)))
+
+      to : (i : ℕ) → a ≤ i → i ≤ n → i ≤ firstFrom a m f → P i
+      to i u v w = subst P (let z : a + (i - a) ≡ i = omega arith in z) (step (i - a) (omega arith) (omega arith))
+
+  pub found-less : (i : ℕ) {j : ℕ} → i < n → j ≡ firstFrom (i + 1) m f → n - j < n - i
+  found-less i l e = let z = from-low f (i + 1) m (omega arith) in omega arith
 
 -- ---- fold
 

@@ -10,10 +10,11 @@
 --   over-taken     parts that stand in a list, one behind the other, k elements each
 --   over-in, over-out     what is in such a list is in one of its parts
 --   over-length    parts that are no longer make a list that is no longer
+--   over-map       mapped parts
 --   over-apart     members of one part apart, and members of different parts apart: all apart
 use mathlib.Core.Path.{_≡_, refl, sym, _∙_, ap, subst}
 use mathlib.Core.Logic.{_⊎_, inl, inr}
-use mathlib.Core.List.{List, [], _++_, append-assoc, append-nil, List·Memᴰ, List·Memᴰ·not-nil, Memᴰ·append-left, Memᴰ·append-right, List·Memᴰ·append-cases}
+use mathlib.Core.List.{List, [], _++_, map, append-assoc, append-nil, List·Memᴰ, List·Memᴰ·not-nil, Memᴰ·append-left, Memᴰ·append-right, List·Memᴰ·append-cases}
 use Prim.Native.Nat.{ℕ, zero, suc, _+_, _-_, _*_, _<_, _≤_}
 use native.Mathlib.Omega.{arith}
 use native.Mathlib.Nat.{add-zero, mul-suc}
@@ -22,7 +23,7 @@ use native.Mathlib.Decide.{ℕ-discrete}
 use lib.ListN.{length, take, drop, length-append}
 use lib.Seq.{take-add, drop-drop}
 use Rattle.algebra.specs.Loops.{run, over}
-use Rattle.algebra.proofs.ListLaws.{Apart, apart-append}
+use Rattle.algebra.proofs.ListLaws.{Apart, apart-append, map-append}
 
 module _ {A : Type 0} (f : ℕ → List A) where
   pub over-turn : (i n : ℕ) → i < n → over f i n ≡ f i ++ over f (i + 1) n
@@ -91,6 +92,14 @@ over-length f g a n h = go a (n - a)
     go : (a k : ℕ) → length (run f a k) ≤ length (run g a k)
     go a zero = omega arith
     go a (suc k) = let p = length-append (f a) (run f (suc a) k) in let q = length-append (g a) (run g (suc a) k) in let r = go (suc a) k in let s = h a in omega arith
+
+pub over-map : {A B : Type 0} (g : A → B) (f : ℕ → List A) (a n : ℕ) → over (λ i. map g (f i)) a n ≡ map g (over f a n)
+unfolding over run
+over-map {B = B} g f a n = go a (n - a)
+  where
+    go : (a k : ℕ) → run (λ i. map g (f i)) a k ≡ map g (run f a k)
+    go a zero = refl
+    go a (suc k) = ap (λ (t : List B). map g (f a) ++ t) (go (suc a) k) ∙ sym (map-append g (f a) (run f (suc a) k))
 
 -- ---- in pieces
 

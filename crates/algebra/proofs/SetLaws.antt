@@ -6,22 +6,23 @@
 --   nest-in, nest-out  what such loops list comes from an increasing list of that length, and each such list is gone through
 --   nest-apart         the lists are gone through in lexicographic order
 --   nest-length        parts that are no longer make a list that is no longer
+--   nest-map           mapped parts
 --   picks-on           the numbers below n that are in an increasing list are that list
 --   picks-same         tests that agree below n pick the same numbers
 --   sum-within         a sum over an increasing list, as one over all numbers below n
 use mathlib.Core.Path.{_≡_, refl, sym, _∙_, ap, subst}
 use mathlib.Core.Logic.{inl, inr}
 use mathlib.Core.Bool.{Bool, false, cond}
-use mathlib.Core.List.{List, [], _∷_, _++_, List·Memᴰ, append-assoc, append-nil}
+use mathlib.Core.List.{List, [], _∷_, _++_, map, List·Memᴰ, append-assoc, append-nil}
 use Prim.Native.Nat.{ℕ, zero, suc, _+_, _<_, _≤_}
 use native.Mathlib.Omega.{arith}
 use native.Mathlib.Decide.{ℕ-discrete}
 use lib.ListN.{length}
 use borrow.Author.Tests.{eq-eqb, ne-eqb}
-use Rattle.algebra.specs.Loops.{picks, run, tally, sumOf}
+use Rattle.algebra.specs.Loops.{picks, run, over, tally, sumOf}
 use Rattle.algebra.specs.Sets.{isOn, Within, Lex, nest}
 use Rattle.algebra.proofs.ListLaws.{Apart}
-use Rattle.algebra.proofs.OverLaws.{over-in, over-out, over-apart, over-length}
+use Rattle.algebra.proofs.OverLaws.{over-in, over-out, over-apart, over-length, over-map}
 use Rattle.algebra.proofs.LoopLaws.{sum-picks}
 
 -- ---- increasing lists
@@ -90,6 +91,11 @@ unfolding nest
 nest-length zero f g a n h = h []
 nest-length (suc k) f g a n h =
     over-length (λ i. nest k (λ s. f (i ∷ s)) (i + 1) n) (λ i. nest k (λ s. g (i ∷ s)) (i + 1) n) a n (λ i. nest-length k (λ s. f (i ∷ s)) (λ s. g (i ∷ s)) (i + 1) n (λ s. h (i ∷ s)))
+
+pub nest-map : {A B : Type 0} (g : A → B) (k : ℕ) (f : List ℕ → List A) (a n : ℕ) → nest k (λ s. map g (f s)) a n ≡ map g (nest k f a n)
+unfolding nest
+nest-map g zero f a n = refl
+nest-map {B = B} g (suc k) f a n = ap (λ (h : ℕ → List B). over h a n) (λ j i. nest-map g k (λ s. f (i ∷ s)) (i + 1) n j) ∙ over-map g (λ i. nest k (λ s. f (i ∷ s)) (i + 1) n) a n
 
 -- ---- the numbers that are in a list
 

@@ -1,6 +1,8 @@
 -- Laws of sets of numbers as bits in words, over any number k of words.
 --
 --   bit-member, member-past      bit j of word i is number 64 i + j; nothing is in the set past its words
+--   restOf w r                   what is left of the word that holds number r, from r on
+--   rest-none, rest-lowest       nothing is in it; its lowest bit is the next member
 --   words-same, same-members     sets with the same members are the same words
 --   sift-words, member-sift, sift-same, sift-member    the set of the numbers that pass a test
 --   put-words, member-put, put-here, put-other         a number put in
@@ -24,6 +26,8 @@ use native.Mathlib.Nat.{not-suc-le-zero, mul-le-mul-left}
 use native.Mathlib.Decide.{decLt, ℕ-discrete}
 use lib.Dec.{eqb}
 use lib.Bits.{bitAnd, and-lt}
+use lib.Count.{trailingZeros}
+use lib.Pow.{shr-le}
 use lib.ListN.{length, getD, set, length-set, List·getD-eq-default}
 use lib.Seq.{ext-getD, set-out, getD-set-same, getD-set-other}
 use borrow.Author.Tests.{not-false, lt-ltb, eq-eqb, ne-eqb}
@@ -36,7 +40,7 @@ use Rattle.algebra.proofs.LoopLaws.{and-parts, any-none, any-some, any-
 use Rattle.algebra.proofs.LoopLaws.{length-tabulate, getD-tabulate, tabulate-same}
 use Rattle.algebra.proofs.SetTests.{isOn-picks, picks-within}
 use Rattle.algebra.proofs.BitLaws.{mask-below, bit-mask}
-use Rattle.algebra.proofs.BitOps.{bit-and, bits-same, bit-none, bit-set, bit-clear, set-low, clear-low, zero-bits, inside-bits, lone-bit}
+use Rattle.algebra.proofs.BitOps.{bit-and, bits-same, bit-high, bit-none, bit-shift, lowest-bit, bit-set, bit-clear, set-low, clear-low, zero-bits, inside-bits, lone-bit}
 
 -- ---- members by word and bit
 
@@ -53,6 +57,44 @@ bit-member w i j h = λ k. bit (getD w (word k) 0) (place k)
 pub member-past : (w : List ℕ) (r : ℕ) → wordBits * length w ≤ r → member w r ≡ false
 unfolding member
 member-past w r h = ap (λ (x : ℕ). bit x (r % wordBits)) (List·getD-eq-default w 0 {n = r / wordBits} (omega arith)) ∙ bit-none (r % wordBits)
+
+-- ---- from one member to the next
+
+-- what is left of the word that holds the number r, from r on
+abbrev pub restOf : List ℕ → ℕ → ℕ
+restOf w r = getD w (r / wordBits) 0 / 2 ^ (r % wordBits)
+
+module _ (w : List ℕ) (r : ℕ) where
+  rest-member : (j : ℕ) → r % wordBits + j < wordBits → bit (restOf w r) j ≡ member w (r + j)
+  rest-member j h =
+      bit-shift (getD w (r / wordBits) 0) (r % wordBits) j ∙ bit-member w (r / wordBits) (r % wordBits + j) h
+      ∙ ap (member w) (let e : wordBits * (r / wordBits) + (r % wordBits + j) ≡ r + j = omega arith in e)
+
+  -- up to the number i, which is in the same word
+  rest-at : (i : ℕ) → r ≤ i → i < wordBits * (r / wordBits + 1) → member w i ≡ bit (restOf w r) (i - r)
+  rest-at i h l = ap (member w) (let e : i ≡ r + (i - r) = omega arith in e) ∙ sym (rest-member (i - r) (omega arith))
+
+  pub rest-none : restOf w r ≡ 0 → (i : ℕ) → r ≤ i → i < wordBits * (r / wordBits + 1) → member w i ≡ false
+  rest-none e i h l = rest-at i h l ∙ ap (λ (x : ℕ). bit x (i - r)) e ∙ bit-none (i - r)
+
+  pub rest-lowest : getD w (r / wordBits) 0 < 2 ^ wordBits → (restOf w r ≡ 0 → ⊥)
+      → let t = trailingZeros wordBits (restOf w r) in (member w (r + t) ≡ true) × ((i : ℕ) → r ≤ i → i < r + t → member w i ≡ false)
+  rest-lowest v ne = (sym (rest-member t inside) ∙ low .1, λ i h l. rest-at i h (omega (arith, inside)) ∙ low .2 (i - r) (omega arith))
+    where
+      t : ℕ
+      t = trailingZeros wordBits (restOf w r)
+
+      low : (t < wordBits) × (bit (restOf w r) t ≡ true) × ((j : ℕ) → j < t → bit (restOf w r) j ≡ false)
+      low = lowest-bit wordBits (restOf w r) (omega (arith, shr-le (getD w (r / wordBits) 0) (r % wordBits))) ne
+
+      inside : r % wordBits + t < wordBits
+      inside = go (decLt (r % wordBits + t) wordBits)
+        where
+          go : Dec (r % wordBits + t < wordBits) → r % wordBits + t < wordBits
+          go (yes l) = l
+          go (no l) = absurd (true≢false (sym (low .1) ∙ bit-shift (getD w (r / wordBits) 0) (r % wordBits) t ∙ bit-high wordBits (getD w (r / wordBits) 0) (r % wordBits + t) v (omega arith)))
+
+-- ---- sets with the same members
 
 pub words-same : (k : ℕ) (v w : List ℕ) → Words k v → Words k w → ((r : ℕ) → r < wordBits * k → member v r ≡ member w r) → v ≡ w
 words-same k v w p q h =

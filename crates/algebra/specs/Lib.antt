@@ -1,5 +1,6 @@
 pub mod Answer
 pub mod Loops
+pub mod Places
 pub mod Sets
 pub mod Sign
 pub mod Sum

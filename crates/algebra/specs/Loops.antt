@@ -4,6 +4,7 @@
 --   every n f      every i < n passes f
 --   anyOf f xs     some member of xs passes f
 --   first n f      the least i < n that passes f, and n where none does
+--   firstFrom a n f    the least i from a to n - 1 that passes f, and n where none does
 --   fold f a n     a, then f 0 of it, then f 1, .. , then f (n - 1)
 --   tally n f      f 0 + f 1 + .. + f (n - 1)
 --   sumOf f xs     f of each member of xs, summed
@@ -16,7 +17,7 @@
 use mathlib.Core.Bool.{Bool, true, false, cond, _||_, _&&_}
 use mathlib.Core.List.{List, [], _∷_, _++_}
 use Prim.Native.Nat.{ℕ, zero, suc, _+_, _-_}
-use lib.Dec.{ltb}
+use lib.Dec.{ltb, leb}
 
 unfoldable pub any : ℕ → (ℕ → Bool) → Bool
 any zero f = false
@@ -33,6 +34,9 @@ anyOf f (x ∷ xs) = f x || anyOf f xs
 unfoldable pub first : ℕ → (ℕ → Bool) → ℕ
 first zero f = zero
 first (suc n) f = cond (ltb (first n f) n) (first n f) (cond (f n) n (suc n))
+
+unfoldable pub firstFrom : ℕ → ℕ → (ℕ → Bool) → ℕ
+firstFrom a n f = first n (λ i. leb a i && f i)
 
 unfoldable pub fold : {A : Type 0} → (ℕ → A → A) → A → ℕ → A
 fold f a zero = a

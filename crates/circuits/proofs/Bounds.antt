@@ -4,21 +4,20 @@
 --   candidates-most        at most 330 of those for a patch of ten shots or fewer
 --   circuits-most          so at most 330 circuits
 --   all-fit                arrays of 330 places have room for all
-use mathlib.Core.Path.{_≡_, refl}
+use mathlib.Core.Path.{_≡_}
 use mathlib.Core.Bool.{Bool, true, false, not}
 use mathlib.Core.List.{List, [], _∷_}
-use Prim.Native.Nat.{ℕ, suc, _+_, _≤_}
+use Prim.Native.Nat.{ℕ, _+_, _≤_}
 use native.Mathlib.Omega.{arith}
 use native.Mathlib.Nat.{le-trans}
-use lib.Dec.{ltb}
 use lib.ListN.{length, length-append}
 use lib.IntN.{ℤ}
-use borrow.Author.Tests.{ltb-false}
-use Rattle.algebra.specs.Loops.{any, run, over}
 use Rattle.algebra.specs.Sign.{isNought}
-use Rattle.algebra.proofs.LoopLaws.{any-no}
-use Rattle.algebra.specs.Sets.{nest, setsOf}
+use Rattle.algebra.specs.Sets.{setsOf}
+use Rattle.algebra.specs.Places.{choose}
 use Rattle.algebra.proofs.SetLaws.{nest-length}
+use Rattle.algebra.proofs.ChooseLaws.{choose-grows}
+use Rattle.algebra.proofs.PlaceLaws.{sets-count}
 use Rattle.shots.specs.Sizes.{shotsMost}
 use Rattle.shots.specs.Patch.{countOf, orientOf}
 use Rattle.circuits.specs.Sizes.{circuitsMost, candidates}
@@ -61,17 +60,9 @@ module _ (l : List ℤ) where
   unfolding circuitsOf candidates
   circuits-few = omega (arith, length-append (threes l) (fours l), length-append (setsOf 3 (countOf l)) (setsOf 4 (countOf l)), threes-few, fours-few)
 
--- the test over every number of shots, computed
-too-many : ℕ → Bool
-too-many n = ltb circuitsMost (candidates n)
-
-none-too-many : any (suc shotsMost) too-many ≡ false
-unfolding too-many any candidates nest over run
-none-too-many = refl
-
 pub candidates-most : (n : ℕ) → n ≤ shotsMost → candidates n ≤ circuitsMost
-unfolding too-many
-candidates-most n h = ltb-false circuitsMost (candidates n) (any-no too-many (suc shotsMost) n none-too-many (omega arith))
+unfolding candidates choose
+candidates-most n h = omega (arith, length-append (setsOf 3 n) (setsOf 4 n), sets-count 3 n, sets-count 4 n, choose-grows n shotsMost 3 h, choose-grows n shotsMost 4 h)
 
 pub circuits-most : (l : List ℤ) → countOf l ≤ shotsMost → length (circuitsOf l) ≤ circuitsMost
 circuits-most l h = le-trans (circuits-few l) (candidates-most (countOf l) h)

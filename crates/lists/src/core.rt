@@ -21,6 +21,7 @@ use super::edges;
 use triples::Triples;
 use triples::holding;
 use triples::ranks;
+use triples::ranks::Triple;
 use triples::rows;
 use triples::sets;
 
@@ -32,12 +33,13 @@ pub fn solid(shots: &[i32]) -> Triples
     let n = shots.len() / 2;
     let count = ranks::count(n);
     let mut t = sets::none();
+    let mut s = Triple { i: 0, j: 1, k: 2 };
     let mut r = 0;
     while r < count {
-        let s = ranks::triple_at(n, r);
         if shots::plane::sign(shots, s.i, s.j, s.k) != 0 {
             t = sets::with(t, r);
         }
+        s = ranks::next(n, s.i, s.j, s.k);
         r += 1;
     }
     t

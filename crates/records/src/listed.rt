@@ -126,13 +126,11 @@ fn put_triples(n: usize, list: Triples, out: &mut [u8])
 {
     let count = ranks::count(n);
     let mut at = 5;
-    let mut r = 0;
+    let mut r = sets::from(list, 0);
     while r < count {
-        if sets::has(list, r) {
-            put_triple(n, r, out, at);
-            at += 3;
-        }
-        r += 1;
+        put_triple(n, r, out, at);
+        at += 3;
+        r = sets::from(list, r + 1);
     }
 }
 

@@ -25,12 +25,10 @@ pub fn sum(shots: &[i32], list: Triples) -> u64
 {
     let count = triples::ranks::count(shots.len() / 2);
     let mut sum = 0;
-    let mut r = 0;
+    let mut r = triples::sets::from(list, 0);
     while r < count {
-        if triples::sets::has(list, r) {
-            sum += of_rank(shots, r);
-        }
-        r += 1;
+        sum += of_rank(shots, r);
+        r = triples::sets::from(list, r + 1);
     }
     sum
 }

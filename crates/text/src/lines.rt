@@ -56,12 +56,10 @@ fn triples_of(out: &mut [u8], at: usize, n: usize, list: Triples) -> usize
 {
     let count = ranks::count(n);
     let mut next = at;
-    let mut r = 0;
+    let mut r = sets::from(list, 0);
     while r < count {
-        if sets::has(list, r) {
-            next = triple(out, next, n, r);
-        }
-        r += 1;
+        next = triple(out, next, n, r);
+        r = sets::from(list, r + 1);
     }
     next
 }

@@ -1,5 +1,4 @@
 pub mod RankLaws
-pub mod TableLaws
 pub mod SetLaws
 pub mod SiftLaws
 pub mod RowLaws

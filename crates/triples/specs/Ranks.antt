@@ -5,7 +5,7 @@
 --   tripleAt n r      the triple of rank r; the empty list past the last rank
 --   rankOf n s        the rank of the triple s
 --
--- Laws: proofs/RankLaws (`rank-of-triple`, `triple-of-rank`, `rank-order`). Source: document 01, "What a surface is".
+-- Laws: proofs/RankLaws (`rank-of-triple`, `triple-of-rank`, `rank-order`; by formula `count-choose`, `rank-later`, `triple-by`). Source: document 01, "What a surface is"; document 02, E3.
 use mathlib.Core.List.{List, []}
 use Prim.Native.Nat.{ℕ}
 use lib.ListN.{length, getD}

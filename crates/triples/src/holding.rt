@@ -1,13 +1,15 @@
 // Sets of triples by the shots that they hold, and by their size.
 ghost use mathlib.Core.Path.{_≡_};
+ghost use mathlib.Core.List.{[], _∷_};
 ghost use Prim.Native.Nat.{_*_, _≤_, _<_};
 ghost use lib.ListN.{length};
-ghost use Rattle.algebra.specs.Sets.{bit};
+ghost use Rattle.algebra.specs.Sets.{isOn, bit};
 ghost use Rattle.shots.specs.Sizes.{shotsMost, maskBits};
 ghost use Rattle.triples.specs.Sizes.{wordCount};
 ghost use Rattle.triples.specs.Sets.{wordsOf, fullOf, holdersOf, aroundOf, sizeOf, Holding};
 use super::Triples;
 use super::ranks;
+use super::ranks::Triple;
 use super::rows;
 use super::sets;
 
@@ -26,6 +28,19 @@ pub fn full(n: usize) -> Triples
     t
 }
 
+// Whether shot x is one of three.
+fn among(x: usize, i: usize, j: usize, k: usize) -> bool
+    ensures { λ r. ⌜ r ≡ isOn x (i ∷ j ∷ k ∷ []) ⌝ }
+{
+    if x == i {
+        return true;
+    }
+    if x == j {
+        return true;
+    }
+    x == k
+}
+
 // The triples with shot k.
 fn holders(n: usize, k: usize) -> Triples
     requires { ⌜ n ≤ shotsMost ⌝ }
@@ -33,12 +48,13 @@ fn holders(n: usize, k: usize) -> Triples
 {
     let count = ranks::count(n);
     let mut t = sets::none();
+    let mut s = Triple { i: 0, j: 1, k: 2 };
     let mut r = 0;
     while r < count {
-        let s = ranks::triple_at(n, r);
-        if s.i == k || s.j == k || s.k == k {
+        if among(k, s.i, s.j, s.k) {
             t = sets::with(t, r);
         }
+        s = ranks::next(n, s.i, s.j, s.k);
         r += 1;
     }
     t
@@ -87,12 +103,10 @@ pub fn size(n: usize, list: Triples) -> usize
 {
     let count = ranks::count(n);
     let mut k = 0;
-    let mut r = 0;
+    let mut r = sets::from(list, 0);
     while r < count {
-        if sets::has(list, r) {
-            k += 1;
-        }
-        r += 1;
+        k += 1;
+        r = sets::from(list, r + 1);
     }
     k
 }

@@ -3,7 +3,6 @@ pub mod holding;
 pub mod ranks;
 pub mod rows;
 pub mod sets;
-mod tables;
 
 // A set has this many words, of so many bits.
 pub const WORDS: usize = 2;

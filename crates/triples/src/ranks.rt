@@ -1,15 +1,10 @@
-// Ranks of triples i < j < k among n shots: lexicographic, from 0, by stored tables.
+// Ranks of triples i < j < k among n shots: lexicographic, from 0, by formula.
 ghost use mathlib.Core.Path.{_≡_};
 ghost use mathlib.Core.List.{[], _∷_};
-ghost use Prim.Native.Nat.{_≤_, _<_};
+ghost use Prim.Native.Nat.{_+_, _-_, _≤_, _<_};
+ghost use Rattle.algebra.specs.Places.{choose, setBy, nextOf};
 ghost use Rattle.shots.specs.Sizes.{shotsMost};
 ghost use Rattle.triples.specs.Ranks.{tripleCount, tripleAt, rankOf};
-use super::tables;
-
-// Where the triples of n shots begin, and how many they are.
-const STARTS: [usize; 11] = [0, 0, 0, 0, 1, 5, 15, 35, 70, 126, 210];
-
-const COUNTS: [usize; 11] = [0, 0, 0, 1, 4, 10, 20, 35, 56, 84, 120];
 
 pub struct Triple {
     pub i: usize,
@@ -17,12 +12,49 @@ pub struct Triple {
     pub k: usize,
 }
 
+// How many sets of k there are of m shots. No turn's division leaves a rest.
+fn choose(m: usize, k: usize) -> usize
+    requires { ⌜ m ≤ shotsMost ⌝ }
+    ensures { λ r. ⌜ r ≡ choose m k ⌝ }
+{
+    if m < k {
+        return 0;
+    }
+    let mut c = 1;
+    let mut i = 0;
+    while i < k {
+        c = c * (m - i) / (i + 1);
+        i += 1;
+    }
+    c
+}
+
 // How many triples n shots have.
 pub fn count(n: usize) -> usize
     requires { ⌜ n ≤ shotsMost ⌝ }
     ensures { λ r. ⌜ r ≡ tripleCount n ⌝ }
 {
-    COUNTS[n]
+    choose(n, 3)
+}
+
+// The first number of a list of numbers, and the place of the others among the lists that begin with it.
+struct Head {
+    number: usize,
+    rest: usize,
+}
+
+// So for the list at place r among those of k + 1 of the numbers from a to n - 1: the lists that begin with an earlier number are passed over.
+fn first(k: usize, a: usize, n: usize, r: usize) -> Head
+    requires { ⌜ (n ≤ shotsMost) × (r < choose (n - a) (k + 1)) ⌝ }
+    ensures { λ f. ⌜ (f .number < n) × (f .rest < choose (n - 1 - f .number) k) × (setBy (k + 1) a (n - a) r ≡ f .number ∷ setBy k (f .number + 1) (n - 1 - f .number) (f .rest)) ⌝ }
+{
+    let mut number = a;
+    let mut rest = r;
+    while choose(n - 1 - number, k) <= rest {
+        rest -= choose(n - 1 - number, k);
+        number += 1;
+    }
+    Head { number, rest }
 }
 
 // The triple of rank r.
@@ -30,18 +62,42 @@ pub fn triple_at(n: usize, r: usize) -> Triple
     requires { ⌜ (n ≤ shotsMost) × (r < tripleCount n) ⌝ }
     ensures { λ t. ⌜ t .i ∷ t .j ∷ t .k ∷ [] ≡ tripleAt n r ⌝ }
 {
-    let x = tables::code(STARTS[n] + r);
+    let a = first(2, 0, n, r);
+    let b = first(1, a.number + 1, n, a.rest);
     Triple {
-        i: x / 100,
-        j: x / 10 % 10,
-        k: x % 10,
+        i: a.number,
+        j: b.number,
+        k: b.number + 1 + b.rest,
     }
 }
 
-// The rank of the triple i < j < k.
+// The triple after i < j < k: the last of its shots that can be greater is one greater, and those behind it follow at once.
+pub fn next(n: usize, i: usize, j: usize, k: usize) -> Triple
+    requires { ⌜ (i < j) × (j < k) × (k < n) × (n ≤ shotsMost) ⌝ }
+    ensures { λ t. ⌜ t .i ∷ t .j ∷ t .k ∷ [] ≡ nextOf n (i ∷ j ∷ k ∷ []) ⌝ }
+{
+    if k + 1 < n {
+        return Triple { i, j, k: k + 1 };
+    }
+    if j + 2 < n {
+        return Triple {
+            i,
+            j: j + 1,
+            k: j + 2,
+        };
+    }
+    Triple {
+        i: i + 1,
+        j: i + 2,
+        k: i + 3,
+    }
+}
+
+// The rank of the triple i < j < k: all triples but those after it and itself.
 pub fn rank(n: usize, i: usize, j: usize, k: usize) -> usize
     requires { ⌜ (i < j) × (j < k) × (k < n) × (n ≤ shotsMost) ⌝ }
     ensures { λ r. ⌜ r ≡ rankOf n (i ∷ j ∷ k ∷ []) ⌝ }
 {
-    tables::first(10 * n + i) + tables::pair(10 * (n - i - 1) + (j - i - 1)) + (k - j - 1)
+    let after = choose(n - 1 - i, 3) + choose(n - 1 - j, 2) + choose(n - 1 - k, 1);
+    count(n) - 1 - after
 }

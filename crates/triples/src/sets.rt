@@ -3,6 +3,7 @@ ghost use mathlib.Core.Path.{_≡_};
 ghost use Prim.Native.Nat.{_*_, _<_};
 ghost use lib.ListN.{getD, set, replicate};
 ghost use Rattle.algebra.specs.Words.{wordBits, member, putIn, takeOut, bothOf, eitherOf, lessOf, meetsOf, insideOf, emptyOf, aloneOf};
+ghost use Rattle.algebra.specs.Loops.{firstFrom};
 ghost use Rattle.algebra.specs.Sets.{bit};
 ghost use Rattle.algebra.specs.Words.{setBit, clearBit};
 ghost use Rattle.triples.specs.Sizes.{wordCount};
@@ -86,6 +87,21 @@ pub fn without(list: Triples, r: usize) -> Triples
 {
     let q = r / WORD_BITS;
     with_word(list, q, clear_bit(word(list, q), r % WORD_BITS))
+}
+
+// The least rank of the list from r on; past the last bit where there is none.
+pub fn from(list: Triples, r: usize) -> usize
+    ensures { λ q. ⌜ q ≡ firstFrom r (wordBits * wordCount) (member (wordsOf list)) ⌝ }
+{
+    let mut q = r;
+    while q / WORD_BITS < WORDS {
+        let rest = word(list, q / WORD_BITS) >> (q % WORD_BITS);
+        if rest != 0 {
+            return q + u64::trailing_zeros(rest) as usize;
+        }
+        q = WORD_BITS * (q / WORD_BITS + 1);
+    }
+    WORD_BITS * WORDS
 }
 
 // ---- two sets

@@ -18,9 +18,10 @@ use Rattle.shots.specs.Patch.{countOf, orientOf}
 use Rattle.triples.specs.Sizes.{wordCount}
 use Rattle.triples.specs.Ranks.{tripleCount, tripleAt}
 use Rattle.triples.specs.Sets.{wordsOf}
+use Rattle.triples.specs.declared.ranks.Triple.{Triple}
 use Rattle.lists.specs.Tests.{isFlat}
 use Rattle.lists.specs.Held.{solidOf}
-use Rattle.triples.proofs.RankLaws.{triple-shots, rank-room}
+use Rattle.triples.proofs.RankLaws.{Ranked, ranked-first, ranked-next, triple-shots, triple-order, rank-room}
 use Rattle.triples.proofs.SiftLaws.{sifted, sifted-none, sifted-in, sifted-out, sifted-end}
 use Rattle.lists.proofs.ByWords.{flat-past}
 use Rattle.lists.proofs.core.solid.Statement.{statement}
@@ -36,56 +37,64 @@ unfolding isFlat
 bent-sign l r i j k z e s h = ap (λ (t : List ℕ). not (isFlat l t)) (sym e) ∙ ap not (sym (sign-is-nought z (orientOf l i j k) s) ∙ h)
 
 abbrev Inv-loop : tie.InvT-loop
-Inv-loop shots n count t₀ r₀ t r = (r ≤ count) × (wordsOf t ≡ sifted wordCount (bent shots) r)
+Inv-loop shots n count t₀ s₀ r₀ t s r = (r ≤ count) × (wordsOf t ≡ sifted wordCount (bent shots) r) × Ranked (countOf shots) r (s .i ∷ s .j ∷ s .k ∷ [])
 
 abbrev μ-loop : tie.MeasureT-loop
-μ-loop shots n count t₀ r₀ t r = count - r
+μ-loop shots n count t₀ s₀ r₀ t s r = count - r
 
 loop-holds : tie.Need-loop-holds Inv-loop μ-loop
-loop-holds c = (search needs, c .none .ensures ∙ sifted-none _ _)
+loop-holds c = (search needs, c .none .ensures ∙ sifted-none _ _, ranked-first _)
 
--- a rank
-low : (c : tie.In-loop Inv-loop μ-loop) → let q = c .before .before .before in c .before .loop .r < tripleCount (countOf (q .before .args .shots .now))
-low c = omega (arith, c .before .before .before .count .ensures)
+-- at a rank
+module _ (c : tie.In-loop Inv-loop μ-loop) where
+  abbrev place : tie.At-loop Inv-loop μ-loop
+  place = c .before
 
-room : (c : tie.In-loop Inv-loop μ-loop) → c .before .loop .r < wordBits * wordCount
-room c = let q = c .before .before .before in rank-room (countOf (q .before .args .shots .now)) (c .before .loop .r) (q .before .pre .1) (q .count .ensures) (c .loop-test .taken)
+  abbrev start : tie.Start Inv-loop μ-loop
+  start = place .before .before .before
 
-triple-at-requires : tie.Need-triple-at-requires Inv-loop μ-loop
-triple-at-requires c κs = (search needs, low c)
+  abbrev n : ℕ
+  n = countOf (start .args .shots .now)
+
+  abbrev s : Triple
+  s = place .loop .s
+
+  low : place .loop .r < tripleCount n
+  low = omega (arith, place .before .before .count .ensures)
+
+  room : place .loop .r < wordBits * wordCount
+  room = rank-room n (place .loop .r) (start .pre .1) (place .before .before .count .ensures) (c .loop-test .taken)
+
+  here : s .i ∷ s .j ∷ s .k ∷ [] ≡ tripleAt n (place .loop .r)
+  here = place .loop .inv .2 low
 
 sign-requires : tie.Need-sign-requires Inv-loop μ-loop
-sign-requires c κs =
-    let i = c .before in
-    let s = i .before .before .before .before in
-    let h = triple-shots (countOf (s .args .shots .now)) (i .before .loop .r) (low i) (c .triple-at .ensures) in
-    (h .0, h .1, h .2, s .pre .0)
+sign-requires c κs = let h = triple-shots (n c) (place c .loop .r) (low c) (here c) in (h .0, h .1, h .2, start c .pre .0)
 
-with-requires : tie.Need-with-requires Inv-loop μ-loop
-with-requires c κs = room (c .before .before .before)
+next-requires : tie.Need-next-requires Inv-loop μ-loop
+next-requires c κs =
+    let i = c .before .before in
+    let o = triple-order (n i) (place i .loop .r) (low i) (here i) in
+    (o .0, o .1, o .2, start i .pre .1)
 
-add-r : tie.Need-add-r Inv-loop μ-loop
-add-r c = omega (arith, room (c .before .before .before))
-
--- at the number gone through
-here : (g : tie.After-sign Inv-loop μ-loop) {b : Bool} → eqb (ofZ w8 (g .sign .result)) (ofZ w8 (pos 0)) ≡ b
-    → let l = g .before .before .before in bent (l .before .before .before .args .shots .now) (l .loop .r) ≡ not b
-here g e =
-    let l = g .before .before .before in
-    let t = g .before .triple-at in
-    bent-sign (l .before .before .before .args .shots .now) (l .loop .r) (t .result .i) (t .result .j) (t .result .k) (g .sign .result) (t .ensures) (g .sign .ensures) e
+-- its test
+tested : (g : tie.After-sign Inv-loop μ-loop) {b : Bool} → eqb (ofZ w8 (g .sign .result)) (ofZ w8 (pos 0)) ≡ b → bent (start (g .before) .args .shots .now) (place (g .before) .loop .r) ≡ not b
+tested g e =
+    let i = g .before in
+    bent-sign (start i .args .shots .now) (place i .loop .r) (s i .i) (s i .j) (s i .k) (g .sign .result) (here i) (g .sign .ensures) e
 
 loop-again : tie.Need-loop-again Inv-loop μ-loop
 loop-again c =
-    let g = c .before in
-    let t = g .before in
-    let l = t .before .before in
-    let shots = l .before .before .before .args .shots .now in (
+    let g = c .before .before in
+    let i = g .before in
+    let l = place i in
+    let shots = start i .args .shots .now in (
       search needs,
       ⊎-elim
-          (λ w. sifted-in wordCount (bent shots) (l .loop .r) (room (t .before)) (here g (ne-eqb _ _ (w .0 .taken))) (l .loop .inv .1) (ap wordsOf (w .2) ∙ w .1 .ensures))
-          (λ w. sifted-out wordCount (bent shots) (l .loop .r) (here g (eq-eqb _ _ (w .0 .left))) (ap wordsOf (w .1) ∙ l .loop .inv .1))
-          (c .if1 .came),
+          (λ w. sifted-in wordCount (bent shots) (l .loop .r) (room i) (tested g (ne-eqb _ _ (w .0 .taken))) (l .loop .inv .1) (ap wordsOf (w .2) ∙ w .1 .ensures))
+          (λ w. sifted-out wordCount (bent shots) (l .loop .r) (tested g (eq-eqb _ _ (w .0 .left))) (ap wordsOf (w .1) ∙ l .loop .inv .1))
+          (c .before .if1 .came),
+      ranked-next (n i) (l .loop .r) (l .loop .inv .2) (c .next .ensures),
     )
 
 returns : tie.Need-returns Inv-loop μ-loop
@@ -105,10 +114,10 @@ solid-spec =
     (λ c κs. search needs)
     (λ c κs. search needs)
     loop-holds
-    triple-at-requires
     sign-requires
-    with-requires
-    add-r
+    (λ c κs. room (c .before .before))
+    next-requires
+    (λ c. omega (arith, room (c .before .before .before)))
     (λ c. search needs)
     loop-again
     returns)

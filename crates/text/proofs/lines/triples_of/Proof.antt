@@ -1,6 +1,5 @@
 -- `text::lines::triples_of` meets its contract: each turn puts the text of one rank, which is at most four characters.
-use mathlib.Core.Path.{_≡_, sym, _∙_}
-use mathlib.Core.Logic.{⊎-elim}
+use mathlib.Core.Path.{_≡_, refl, sym, _∙_}
 use mathlib.Core.Bool.{true, false}
 use mathlib.Core.List.{List}
 use Prim.Native.Nat.{ℕ, _+_, _*_, _-_, _≤_, _<_}
@@ -8,12 +7,15 @@ use native.Mathlib.Omega.{arith}
 use native.Mathlib.Nat.{add-zero}
 use lib.ListN.{length}
 use borrow.Author.Needs.{needs}
-use Rattle.algebra.specs.Words.{member}
+use Rattle.algebra.specs.Loops.{firstFrom}
+use Rattle.algebra.specs.Words.{wordBits, member}
 use Rattle.algebra.specs.Writing.{wrote}
+use Rattle.algebra.proofs.LoopLaws.{Found, found-on, found-less}
 use Rattle.algebra.proofs.WritingLaws.{Putting, putting-none, putting-turn, putting-end, putting-length}
+use Rattle.triples.specs.Sizes.{wordCount, triplesMost}
 use Rattle.triples.specs.Ranks.{tripleAt}
 use Rattle.triples.specs.Sets.{wordsOf}
-use Rattle.triples.proofs.RankLaws.{triples-few, rank-room}
+use Rattle.triples.proofs.RankLaws.{triples-few}
 use Rattle.text.specs.Lines.{Put, tripleText, rankText, triplesText}
 use Rattle.text.proofs.lines.triples_of.Statement.{statement}
 use Rattle.text.proofs.lines.triples_of.Tie as tie
@@ -28,69 +30,96 @@ module _ (n : ℕ) (w : List ℕ) (r : ℕ) (t : List ℕ) (at : ℕ) {u : List 
   unfolding rankText wrote
   put-out m e p = rw m (p ∙ sym (add-zero at), e)
 
+-- the texts of the ranks below r are put
+abbrev Lined : ℕ → List ℕ → ℕ → List ℕ → ℕ → List ℕ → ℕ → ℕ → Type 0
+Lined n w count t at out next r = (next ≤ at + 4 * r) × Putting (rankText n w) count t at r out next
+
+lined-on : (n : ℕ) (w : List ℕ) (count : ℕ) (t : List ℕ) (at : ℕ) (out : List ℕ) (next r : ℕ) → r < count → member w r ≡ false → Lined n w count t at out next r → Lined n w count t at out next (r + 1)
+lined-on n w count t at out next r h m p = (omega (arith, p .0), putting-turn (rankText n w) count t at r out next (p .1) h (put-out n w r out next m refl refl))
+
 abbrev Inv-loop : tie.InvT-loop
-Inv-loop out₀ at n list count next₀ r₀ out next r = (r ≤ count) × (next ≤ at + 4 * r) × Putting (rankText n (wordsOf list)) count out₀ at r out next
+Inv-loop out₀ at n list count next₀ r₀ out next r = Found (member (wordsOf list)) count (Lined n (wordsOf list) count out₀ at out next) r
 
 abbrev μ-loop : tie.MeasureT-loop
 μ-loop out₀ at n list count next₀ r₀ out next r = count - r
 
+room : (c : tie.After-count Inv-loop μ-loop) → c .count .result ≤ triplesMost
+room c = let s = c .before .before in omega (arith, c .count .ensures, triples-few (s .args .n) (s .pre .0))
+
 loop-holds : tie.Need-loop-holds Inv-loop μ-loop
-loop-holds c = let s = c .before .before in (search needs, search needs, putting-none (rankText (s .args .n) (wordsOf (s .args .list))) (c .count .result) (s .args .out .now) (s .args .at))
+loop-holds c =
+    let s = c .before .before .before in
+    let w = wordsOf (s .args .list) in
+    let n = c .before .count .result in
+    let t = s .args .out .now in
+    found-on (member w) n _ (omega (arith, room (c .before))) (Lined (s .args .n) w n t (s .args .at) t (s .args .at)) 0 (lined-on (s .args .n) w n t (s .args .at) t (s .args .at)) (omega arith)
+    (omega arith, putting-none (rankText (s .args .n) w) n t (s .args .at)) (c .from .ensures)
 
-has-requires : tie.Need-has-requires Inv-loop μ-loop
-has-requires c κs = let q = c .before .before in let s = q .before .before in rank-room (s .args .n) (c .before .loop .r) (s .pre .0) (q .count .ensures) (c .loop-test .taken)
-
--- what is put so far, by a loop that stands at rank r
 module _ (l : tie.At-loop Inv-loop μ-loop) where
+  abbrev counted : tie.After-count Inv-loop μ-loop
+  counted = l .before .before
+
+  abbrev count : ℕ
+  count = counted .count .result
+
   abbrev start : tie.Start Inv-loop μ-loop
-  start = l .before .before .before
+  start = counted .before .before
+
+  abbrev words : List ℕ
+  words = wordsOf (start .args .list)
 
   abbrev texts : ℕ → List ℕ
-  texts = rankText (start .args .n) (wordsOf (start .args .list))
+  texts = rankText (start .args .n) words
 
-  kept : length (l .loop .out) ≡ length (start .args .out .now)
-  kept = putting-length texts (l .before .count .result) (start .args .out .now) (start .args .at) (l .loop .r) (l .loop .out) (l .loop .next) (l .loop .inv .2)
+  kept : (r : ℕ) → Lined (start .args .n) words count (start .args .out .now) (start .args .at) (l .loop .out) (l .loop .next) r → length (l .loop .out) ≡ length (start .args .out .now)
+  kept r p = putting-length texts count (start .args .out .now) (start .args .at) r (l .loop .out) (l .loop .next) (p .1)
 
-  turn : {out : List ℕ} {next : ℕ} → l .loop .r < l .before .count .result → Put (l .loop .out) (l .loop .next) (texts (l .loop .r)) out next
-      → Putting texts (l .before .count .result) (start .args .out .now) (start .args .at) (l .loop .r + 1) out next
-  turn = putting-turn texts (l .before .count .result) (start .args .out .now) (start .args .at) (l .loop .r) (l .loop .out) (l .loop .next) (l .loop .inv .2)
+-- at a rank of the list
+module _ (i : tie.In-loop Inv-loop μ-loop) where
+  abbrev place : tie.At-loop Inv-loop μ-loop
+  place = i .before
+
+  here : (member (words place) (place .loop .r) ≡ true) × Lined (start place .args .n) (words place) (count place) (start place .args .out .now) (start place .args .at) (place .loop .out) (place .loop .next) (place .loop .r)
+  here = place .loop .inv .0 (i .loop-test .taken)
+
+  -- its text, and the next rank of the list
+  turn : {out : List ℕ} {next q : ℕ} → Put (place .loop .out) (place .loop .next) (tripleText (tripleAt (start place .args .n) (place .loop .r))) out next → next ≡ place .loop .next + 4
+      → q ≡ firstFrom (place .loop .r + 1) (wordBits * wordCount) (member (words place))
+      → Found (member (words place)) (count place) (Lined (start place .args .n) (words place) (count place) (start place .args .out .now) (start place .args .at) out next) q
+  turn {out} {next} p e =
+      let a = start place .args in
+      let v = place .loop in
+      let n = count place in
+      found-on (member (words place)) n _ (omega (arith, room (counted place))) (Lined (a .n) (words place) n (a .out .now) (a .at) out next) (v .r + 1)
+      (lined-on (a .n) (words place) n (a .out .now) (a .at) out next) (omega (arith, i .loop-test .taken))
+      (omega (arith, here .1 .0), putting-turn (texts place) n (a .out .now) (a .at) (v .r) (v .out) (v .next) (here .1 .1) (i .loop-test .taken) (put-in (a .n) (words place) (v .r) (v .out) (v .next) (here .0) p))
 
 triple-requires : tie.Need-triple-requires Inv-loop μ-loop
 triple-requires c κs =
-    let i = c .before .before .before in
-    let l = i .before in
-    let s = start l in (
-      s .pre .0,
-      omega (arith, l .before .count .ensures, i .loop-test .taken),
-      omega (arith, kept l, l .loop .inv .1, s .pre .1, l .before .count .ensures, i .loop-test .taken, triples-few (s .args .n) (s .pre .0)),
-    )
+    let i = c .before in
+    let l = place i in
+    let h = i .loop-test .taken in
+    let s = start l in
+    (s .pre .0, omega (arith, counted l .count .ensures, h), omega (arith, kept l (l .loop .r) (here i .1), here i .1 .0, s .pre .1, room (counted l), h))
 
 loop-again : tie.Need-loop-again Inv-loop μ-loop
 loop-again c =
-    let o = c .before in
-    let l = o .before .before in
-    let a = start l .args in
-    let v = l .loop in
-    ⊎-elim
-    (λ p. let e = p .2 .ensures in (
-      search needs,
-      omega (arith, v .inv .1, p .6, e .1),
-      turn l (o .before .loop-test .taken) (put-in (a .n) (wordsOf (a .list)) (v .r) (v .out) (v .next) (sym (o .has .ensures) ∙ p .0 .taken) (p .6 ∙ e .0 .0, p .5 ∙ e .0 .1)),
-    ))
-    (λ p. (
-      search needs,
-      omega (arith, v .inv .1, p .2),
-      turn l (o .before .loop-test .taken) (put-out (a .n) (wordsOf (a .list)) (v .r) (v .out) (v .next) (sym (o .has .ensures) ∙ p .0 .left) (p .1) (p .2)),
-    )) (c .if1 .came)
+    let d = c .before .before .before in
+    let e = d .triple .ensures in
+    turn (d .before .before) (e .0) (e .1) (c .from2 .ensures)
+
+-- all ranks are gone through
+all : (c : tie.After-loop Inv-loop μ-loop) → let l = c .before in Lined (start l .args .n) (words l) (count l) (start l .args .out .now) (start l .args .at) (l .loop .out) (l .loop .next) (count l)
+all c = c .before .loop .inv .1 (c .loop-test .left)
 
 returns : tie.Need-returns Inv-loop μ-loop
 unfolding triplesText
 returns c =
     let l = c .before in
     let s = start l in
-    let count = l .before .count in (
-      rw (sym (count .ensures)) (putting-end (texts l) (count .result) (s .args .out .now) (s .args .at) (l .loop .r) (l .loop .out) (l .loop .next) (l .loop .inv .2) (c .loop-test .left)),
-      omega (arith, l .loop .inv .0, l .loop .inv .1, count .ensures, triples-few (s .args .n) (s .pre .0)),
+    let v = l .loop in (
+      rw (sym (counted l .count .ensures)) (putting-end (texts l) (count l) (s .args .out .now) (s .args .at) (count l) (v .out) (v .next) (all c .1) (omega arith)),
+      omega (arith, all c .0, room (counted l)),
     )
 
 pub triples-of-spec : {M : Type 1} → statement M
@@ -100,11 +129,12 @@ triples-of-spec =
     Inv-loop
     μ-loop
     (λ c κs. search needs)
+    (λ c κs. search needs)
     loop-holds
-    has-requires
     triple-requires
-    (λ c. omega (arith, has-requires (c .before .before) tt))
-    (λ c. search needs)
+    (λ c. let i = c .before .before .before .before in omega (arith, room (counted (i .before)), i .loop-test .taken))
+    (λ c κs. search needs)
+    (λ c. let i = c .before .before .before .before .before in found-less _ _ _ (omega (arith, room (counted (i .before)))) _ (i .loop-test .taken) (c .from2 .ensures))
     loop-again
-    (λ c. kept (c .before))
+    (λ c. kept (c .before) _ (all c))
     returns)

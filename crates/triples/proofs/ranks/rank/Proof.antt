@@ -1,31 +1,49 @@
--- `triples::ranks::rank` meets its contract: what the tables add up to is the rank, which is small.
-use mathlib.Core.Path.{_≡_, sym, _∙_, subst}
-use Prim.Native.Nat.{ℕ, _+_, _-_, _≤_}
+-- `triples::ranks::rank` meets its contract: all triples but those after it and itself.
+use mathlib.Core.Path.{_≡_}
+use mathlib.Core.List.{[], _∷_}
+use Prim.Native.Nat.{ℕ, suc, _+_, _-_, _≤_}
 use native.Mathlib.Omega.{arith}
 use borrow.Author.Needs.{needs}
+use Rattle.algebra.specs.Places.{choose}
 use Rattle.triples.specs.Sizes.{triplesMost}
-use Rattle.triples.proofs.TableLaws.{stored, rank-is, stored-small}
+use Rattle.triples.specs.Ranks.{rankOf, tripleCount}
+use Rattle.triples.proofs.RankLaws.{rank-later, triples-few}
 use Rattle.triples.proofs.ranks.rank.Statement.{statement}
 use Rattle.triples.proofs.ranks.rank.Tie as tie
 
-module _ (c : tie.After-pair) where
+module _ (s : tie.Start) where
+  abbrev after : ℕ
+  after = choose (s .args .n - 1 - s .args .i) 3 + choose (s .args .n - 1 - s .args .j) 2 + choose (s .args .n - 1 - s .args .k) 1
+
+  -- the triples before it, it, and those after it
+  all : rankOf (s .args .n) (s .args .i ∷ s .args .j ∷ s .args .k ∷ []) + suc after ≡ tripleCount (s .args .n)
+  all = rank-later (s .args .n) (s .args .i) (s .args .j) (s .args .k) (s .pre .0) (s .pre .1) (s .pre .2)
+
+  few : suc after ≤ triplesMost
+  few = omega (arith, all, triples-few (s .args .n) (s .pre .3))
+
+add-after : tie.Need-add-after
+add-after c = omega (arith, few (c .before .before), c .before .choose .ensures, c .choose2 .ensures)
+
+add-after-2 : tie.Need-add-after-2
+add-after-2 c = omega (arith, few (c .before .before .before), c .before .before .choose .ensures, c .before .choose2 .ensures, c .choose3 .ensures)
+
+-- what the code adds up is how many come after it
+module _ (c : tie.After-count) where
   abbrev start : tie.Start
-  start = c .before .before
+  start = c .before .before .before .before
 
-  sum-is : c .before .first .result + c .pair .result + (start .args .k - start .args .j - 1) ≡ stored (start .args .n) (start .args .i) (start .args .j) (start .args .k)
-  sum-is = λ z. c .before .first .ensures z + c .pair .ensures z + (start .args .k - start .args .j - 1)
+  sum : c .before .before .before .choose .result + c .before .before .choose2 .result + c .before .choose3 .result ≡ after start
+  sum = λ z. c .before .before .before .choose .ensures z + c .before .before .choose2 .ensures z + c .before .choose3 .ensures z
 
-  small : c .before .first .result + c .pair .result + (start .args .k - start .args .j - 1) ≤ triplesMost
-  small = subst (λ (x : ℕ). x ≤ triplesMost) (sym sum-is) (stored-small (start .args .n) (start .args .i) (start .args .j) (start .args .k) (start .pre .0) (start .pre .1) (start .pre .2) (start .pre .3))
+sub-result : tie.Need-sub-result
+sub-result c = omega (arith, all (start c), c .count .ensures)
 
-add-result : tie.Need-add-result
-add-result c = omega (arith, small c)
-
-add-result-2 : tie.Need-add-result-2
-add-result-2 c = omega (arith, small c)
+sub-result-2 : tie.Need-sub-result-2
+sub-result-2 c = omega (arith, all (start c), c .count .ensures, sum c)
 
 returns : tie.Need-returns
-returns c = let s = c .before .before in sum-is c ∙ rank-is (s .args .n) (s .args .i) (s .args .j) (s .args .k) (s .pre .0) (s .pre .1) (s .pre .2) (s .pre .3)
+returns c = omega (arith, all (start c), c .count .ensures, sum c)
 
 pub rank-spec : {M : Type 1} → statement M
 rank-spec =
@@ -36,13 +54,13 @@ rank-spec =
     (λ c κs. search needs)
     (λ c. search needs)
     (λ c. search needs)
-    (λ c. search needs)
-    (λ c. search needs)
+    (λ c κs. search needs)
+    add-after
     (λ c. search needs)
     (λ c. search needs)
     (λ c κs. search needs)
-    add-result
-    (λ c. search needs)
-    (λ c. search needs)
-    add-result-2
+    add-after-2
+    (λ c κs. search needs)
+    sub-result
+    sub-result-2
     returns)
