@@ -613,12 +613,24 @@ def result_cases():
         case("run", patch, first + last + [0, 0] + [0] * 2 * len(surfaces), 3, 0, 3 * count)
 
 
+def rank_cases():
+    remark("ranks: surfaces of convex patches that together hold every triple of 3 to 10 shots, written and read")
+    for n in range(3, 11):
+        patch = [(x, x * x) for x in range(n)]
+        surfaces, left = walk(patch)[1], set(triples(n))
+        while left:
+            surface = max(surfaces, key=lambda s: len(left.intersection(s)))
+            left.difference_update(surface)
+            case("write_surface", patch, *words(n, surface), [255] * (6 + 3 * len(surface)))
+            case("read_surface", patch, surface_record(n, surface))
+
+
 def main():
     for group in [
         document_cases, run_cases, shot_cases, extreme_cases, circuit_cases, list_cases, changed_surface_cases,
         folded_cases, placing_cases, flip_cases, random_patch_cases, refused_shot_cases, refused_list_cases,
         start_cases, walk_record_cases, table_cases, random_table_cases, run_length_cases, capacity_cases,
-        patch_record_cases, surface_record_cases, buffer_cases, result_cases, side_cases, orientation_cases,
+        patch_record_cases, surface_record_cases, buffer_cases, result_cases, side_cases, orientation_cases, rank_cases,
     ]:
         group()
 

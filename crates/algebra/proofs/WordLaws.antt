@@ -10,6 +10,7 @@
 --   both-words, either-words, less-words, member-both, member-either, member-less    sets made of two
 --   meets-reflects, inside-reflects, alone-reflects    the tests decide what they say
 --   sift-all, both-member, meets-at, inside-at         the same with no bound on the numbers
+--   misses-either                what meets no number of two sets together meets none of either
 --   combined, meets-words, inside-words, empty-words   the same word by word, as the loops of the code go
 --   row-length, row-at, row-same, row-other, row-behind, setRow-length     rows of a table; the words behind a row that is written
 --   row-whole                    k words, read as the first row of rows of k words, are those words
@@ -295,6 +296,15 @@ module _ (k : ℕ) (u w : List ℕ) (v : Words k u) where
 
   pub inside-at : Reflects ((r : ℕ) → member u r ≡ true → member w r ≡ true) (insideOf u w)
   inside-at = reflects-iff (λ h r e. h r (words-low (length u) u r (refl, v .1) e) e, λ h r l e. h r e) (inside-reflects u w)
+
+pub misses-either : (k : ℕ) (u v w : List ℕ) → Words k u → Words k v → meetsOf (eitherOf u v) w ≡ false → (meetsOf u w ≡ false) × (meetsOf v w ≡ false)
+misses-either k u v w p q e = (part u p (λ r m. ap (λ (b : Bool). b || member v r) m), part v q (λ r m. ap (λ (b : Bool). member u r || b) m ∙ or-true (member u r)))
+  where
+    part : (t : List ℕ) → Words k t → ((r : ℕ) → member t r ≡ true → (member u r || member v r) ≡ true) → meetsOf t w ≡ false
+    part t x into =
+        reflects-false (meets-at k t w x)
+        (λ m. reflects-no (meets-at k (eitherOf u v) w (either-words k u v p)) e
+        (m .0, member-either u v (m .0) (let l = words-low k t (m .0) x (m .1) in let c = p .0 in omega arith) ∙ into (m .0) (m .1), m .2))
 
 -- ---- word by word
 

@@ -116,6 +116,10 @@ pub fn between(
     requires { ⌜ (n ≤ shotsMost) × (wordCount * n ≤ length (now held)) × Holding n (now held) × (x < 2 ^ n) × IsStar n x (wordsOf plus) × IsStar n x (wordsOf minus) ⌝ }
     ensures { λ r. ⌜ (r .found ≡ foundBy n x (wordsOf plus) (wordsOf minus) (wordsOf list)) × (wordsOf (r .list) ≡ flippedBy n x (wordsOf plus) (wordsOf minus) (wordsOf list)) ⌝ }
 {
+    // Most circuits have nothing of the list about them: one test for both sides.
+    if !triples::sets::meets(triples::sets::either(plus, minus), list) {
+        return Turned { found: false, list };
+    }
     let first = exchange(held, n, x, plus, minus, list);
     if first.found {
         return first;
