@@ -11,24 +11,22 @@
 --   inside-bits                  the and of x and y is x where y has every bit of x
 --   bit-shift                    the bits of a number that is shifted down
 --   lowest-bit                   below the lowest bit of x stand as many zeros as the machine counts
---   lone-bit                     x and x - 1 have no bit in common where exactly one bit of x is set
 use mathlib.Core.Path.{_≡_, refl, sym, _∙_, ap, subst}
 use mathlib.Core.Bool.{Bool, true, false, not, cond, _||_, _&&_, true≢false, or-false, and-true, and-false}
 use mathlib.Core.Logic.{_⊎_, inl, inr, ⊎-elim}
-use Prim.Native.Nat.{ℕ, zero, suc, min, _+_, _*_, _-_, _/_, _%_, _^_, _<_, _≤_}
+use Prim.Native.Nat.{ℕ, zero, suc, _+_, _*_, _-_, _/_, _%_, _^_, _<_, _≤_}
 use native.Mathlib.Omega.{arith}
-use native.Mathlib.Nat.{one-mul, mod-self, div-eq-of-lt, div-self, add-div-right, pow-suc}
+use native.Mathlib.Nat.{one-mul, div-eq-of-lt, div-self, add-div-right, pow-suc}
 use native.Mathlib.Decide.{decLt}
 use lib.Dec.{eqb}
 use lib.Count.{trailingZeros, under}
-use lib.Bits.{bitAnd, bitOr, and-step, and-self, and-le-l, and-mask, and-high, and-shr, and-mod, or-add-and, or-shr, or-mod, or-lt}
+use lib.Bits.{bitAnd, bitOr, and-le-l, and-high, and-shr, and-mod, or-add-and, or-shr, or-mod, or-lt}
 use lib.Pow.{pow-pos, pow-mono, pow-lt, pow-add, shl-exact, shl-shr, shr-shr}
-use borrow.Author.Tests.{eqb-true, eqb-false, eq-eqb, ne-eqb}
+use borrow.Author.Tests.{eqb-true, eq-eqb, ne-eqb}
 use Rattle.algebra.specs.Loops.{any}
 use Rattle.algebra.specs.Sets.{bit}
 use Rattle.algebra.specs.Words.{setBit, clearBit}
-use Rattle.algebra.proofs.AnswerLaws.{reflects-true, reflects-false}
-use Rattle.algebra.proofs.LoopLaws.{any-no, any-some, reflects-lone}
+use Rattle.algebra.proofs.LoopLaws.{any-no, any-some}
 
 -- ---- a bit by its number
 
@@ -271,59 +269,3 @@ inside-bits w x y h = go (any w (λ j. bit x j && not (bit y j))) refl
     go false e =
         eq-eqb (bitAnd x y) x
         (bits-same w (bitAnd x y) x (omega (arith, and-le-l x y)) h (λ j l. bit-and x y j ∙ has (bit x j) (bit y j) (any-no (λ i. bit x i && not (bit y i)) w j e l)))
-
--- where x and x - 1 have no bit in common, x is a power of 2
-power : (w x : ℕ) → x < 2 ^ w → 0 < x → bitAnd x (x - 1) ≡ 0 → (k : ℕ) × (x ≡ 2 ^ k)
-power zero x h p e = absurd (omega arith)
-power (suc w) x h p e = ⊎-elim (λ q. even q (power w (x / 2) (omega arith) (omega arith))) odd (two x)
-  where
-    even : x % 2 ≡ 0 → (bitAnd (x / 2) (x / 2 - 1) ≡ 0 → (k : ℕ) × (x / 2 ≡ 2 ^ k)) → (k : ℕ) × (x ≡ 2 ^ k)
-    even q ih =
-        let a : (x - 1) / 2 ≡ x / 2 - 1 = omega arith in
-        let s : bitAnd x (x - 1) ≡ bitAnd (x / 2) (x / 2 - 1) * 2 + min (x % 2) ((x - 1) % 2) = and-step x (x - 1) ∙ ap (λ (y : ℕ). bitAnd (x / 2) y * 2 + min (x % 2) ((x - 1) % 2)) a in
-        let r = ih (omega arith) in
-        (suc (r .0), up (r .0) (r .1))
-      where
-        up : (k : ℕ) → x / 2 ≡ 2 ^ k → x ≡ 2 ^ suc k
-        up k z = omega arith
-
-    odd : x % 2 ≡ 1 → (k : ℕ) × (x ≡ 2 ^ k)
-    odd q =
-        let a : (x - 1) / 2 ≡ x / 2 = omega arith in
-        let s : bitAnd x (x - 1) ≡ x / 2 * 2 + min (x % 2) ((x - 1) % 2) = and-step x (x - 1) ∙ ap (λ (y : ℕ). y * 2 + min (x % 2) ((x - 1) % 2)) (ap (bitAnd (x / 2)) a ∙ and-self (x / 2)) in
-        (0, omega arith)
-
-power-and : (k : ℕ) → bitAnd (2 ^ k) (2 ^ k - 1) ≡ 0
-power-and k = and-mask (2 ^ k) k ∙ mod-self (2 ^ k)
-
--- bit k alone is set in 2 ^ k, and in no other number
-lone-power : (w x k : ℕ) → x < 2 ^ w → k < w → bit x k ≡ true → ((i : ℕ) → i < w → bit x i ≡ true → i ≡ k) → x ≡ 2 ^ k
-lone-power w x k h l e u = bits-same w x (2 ^ k) h (pow-lt l) (λ j m. at j m (bit x j) refl ∙ sym (bit-pow k j))
-  where
-    at : (j : ℕ) → j < w → (b : Bool) → bit x j ≡ b → bit x j ≡ eqb j k
-    at j m true q = q ∙ sym (eq-eqb j k (u j m q))
-    at j m false q = q ∙ sym (ne-eqb j k (λ z. true≢false (sym e ∙ ap (bit x) (sym z) ∙ q)))
-
-pub lone-bit : (w x : ℕ) → x < 2 ^ w → 0 < x → eqb (bitAnd x (x - 1)) 0 ≡ any w (λ j. bit x j && not (any w (λ i. not (eqb i j) && bit x i)))
-lone-bit w x h p = go (eqb (bitAnd x (x - 1)) 0) refl
-  where
-    below : (k : ℕ) → x ≡ 2 ^ k → k < w
-    below k e = at (decLt k w)
-      where
-        at : Dec (k < w) → k < w
-        at (yes l) = l
-        at (no l) = absurd (let m : 2 ^ w ≤ 2 ^ k = pow-mono (let n : w ≤ k = omega arith in n) in omega arith)
-
-    go : (b : Bool) → eqb (bitAnd x (x - 1)) 0 ≡ b → b ≡ any w (λ j. bit x j && not (any w (λ i. not (eqb i j) && bit x i)))
-    go true e =
-        let r = power w x h p (eqb-true (bitAnd x (x - 1)) 0 e) in
-        sym (reflects-true (reflects-lone (bit x) w) (r .0, below (r .0) (r .1), lit (r .0) (r .1), only (r .0) (r .1)))
-      where
-        lit : (k : ℕ) → x ≡ 2 ^ k → bit x k ≡ true
-        lit k q = ap (λ (y : ℕ). bit y k) q ∙ bit-pow k k ∙ eq-eqb k k refl
-
-        only : (k : ℕ) → x ≡ 2 ^ k → (i : ℕ) → i < w → bit x i ≡ true → i ≡ k
-        only k q i l t = eqb-true i k (sym (bit-pow k i) ∙ ap (λ (y : ℕ). bit y i) (sym q) ∙ t)
-    go false e =
-        sym (reflects-false (reflects-lone (bit x) w)
-        (λ r. let q = lone-power w x (r .0) h (r .1) (r .2) (r .3) in eqb-false (bitAnd x (x - 1)) 0 e (subst (λ (y : ℕ). bitAnd y (y - 1) ≡ 0) (sym q) (power-and (r .0)))))

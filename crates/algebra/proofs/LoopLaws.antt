@@ -5,7 +5,8 @@
 --   any-none, go-on, found, none             a loop that looks for one that passes
 --   every-none, every-on, every-broken, every-end   a loop that looks for one that does not pass
 --   first-none, first-on, first-found, first-end    a loop that looks for the first that passes
---   from-is                                  the first from a number on
+--   from-most, from-is                       the first from a number on
+--   from-empty, from-lone-none, from-lone    by the first of all, and the first behind it: none passes, and exactly one does
 --   Found f n P i                            a loop that goes from one that passes f to the next stands at i: below n, i passes and P is so up to i; past it, P is so up to n
 --   found-on, found-less                     it goes on from a number where P is so, over those that do not pass and leave P as it is; then less is left
 --   fold-none, fold-more, fold-end           a loop that builds a value
@@ -46,7 +47,7 @@ use borrow.Author.Tests.{leb-true, lt-ltb, le-ltb, le-leb, lt-leb}
 use Rattle.algebra.specs.Answer.{Reflects, holds, fails}
 use Rattle.algebra.specs.Loops.{any, every, anyOf, first, firstFrom, fold, tally, sumOf, picks, tabulate}
 use Rattle.algebra.proofs.ListLaws.{Apart, Other, apart-append}
-use Rattle.algebra.proofs.AnswerLaws.{reflects-by, reflects-yes, reflects-no, reflects-true, reflects-stable, reflects-iff, reflects-not, reflects-or, reflects-and, reflects-eqb}
+use Rattle.algebra.proofs.AnswerLaws.{reflects-by, reflects-yes, reflects-no, reflects-true, reflects-false, reflects-agree, reflects-stable, reflects-iff, reflects-not, reflects-or, reflects-and, reflects-eqb}
 
 -- below suc n: below n, or n itself
 pub last : (i n : ℕ) → i < suc n → (i < n) ⊎ (i ≡ n)
@@ -343,6 +344,10 @@ module _ (f : ℕ → Bool) (a n : ℕ) where
   unfolding firstFrom
   from-passes h = and-parts (leb a (firstFrom a n f)) (f (firstFrom a n f)) (first-passes late n h) .1
 
+  pub from-most : firstFrom a n f ≤ n
+  unfolding firstFrom
+  from-most = first-low late n
+
   from-low : a ≤ n → a ≤ firstFrom a n f
   unfolding firstFrom
   from-low h = go (decLt (firstFrom a n f) n)
@@ -369,6 +374,45 @@ module _ (f : ℕ → Bool) (a n : ℕ) where
       go : Dec (i < n) → i ≡ first n late
       go (yes l) = let e = here l in first-found late n i l past refl (ap (λ (b : Bool). b && f i) (le-leb a i (e .0)) ∙ e .1)
       go (no l) = first-end late n i h (omega arith) past
+
+-- the first of all that pass, and the first behind it
+module _ (f : ℕ → Bool) (n : ℕ) {r : ℕ} (e : r ≡ firstFrom 0 n f) where
+  before-first : (i : ℕ) → i < r → f i ≡ false
+  before-first i l = from-none f 0 n i (omega arith) (omega arith)
+
+  at-first : r < n → f r ≡ true
+  at-first l = ap f e ∙ from-passes f 0 n (omega arith)
+
+  pub from-empty : eqb r n ≡ not (any n f)
+  from-empty =
+      reflects-agree (reflects-iff (λ z m. true≢false (sym (m .2) ∙ before-first (m .0) (let l = m .1 in omega arith)), λ h. none h (decLt r n)) (reflects-eqb r n))
+      (reflects-not (reflects-any (λ i. f i ≡ true) f n (λ i l. reflects-test (f i))))
+    where
+      none : ((i : ℕ) × (i < n) × (f i ≡ true) → ⊥) → Dec (r < n) → r ≡ n
+      none h (yes l) = absurd (h (r, l, at-first l))
+      none h (no l) = omega (arith, from-most f 0 n)
+
+  pub from-lone-none : r ≡ n → false ≡ any n (λ j. f j && not (any n (λ i. not (eqb i j) && f i)))
+  from-lone-none z = sym (reflects-false (reflects-lone f n) (λ m. true≢false (sym (m .2) ∙ before-first (m .0) (let l = m .1 in omega arith))))
+
+  pub from-lone : {q : ℕ} → (r ≡ n → ⊥) → q ≡ firstFrom (r + 1) n f → eqb q n ≡ any n (λ j. f j && not (any n (λ i. not (eqb i j) && f i)))
+  from-lone {q} ne g = reflects-agree (reflects-iff (λ z. (r, low, at-first low, λ i l t. only z i l t (decLt i r) (decLt r i)), λ m. last-one m (decLt q n)) (reflects-eqb q n)) (reflects-lone f n)
+    where
+      low : r < n
+      low = let h = from-most f 0 n in omega arith
+
+      only : q ≡ n → (i : ℕ) → i < n → f i ≡ true → Dec (i < r) → Dec (r < i) → i ≡ r
+      only z i l t (yes u) v = absurd (true≢false (sym t ∙ before-first i u))
+      only z i l t (no u) (yes v) = absurd (true≢false (sym t ∙ from-none f (r + 1) n i (omega arith) (omega arith)))
+      only z i l t (no u) (no v) = omega arith
+
+      last-one : (j : ℕ) × (j < n) × (f j ≡ true) × ((i : ℕ) → i < n → f i ≡ true → i ≡ j) → Dec (q < n) → q ≡ n
+      last-one m (yes l) =
+          let h = from-low f (r + 1) n (omega (arith, low)) in
+          let x = m .3 r low (at-first low) in
+          let y = m .3 q l (ap f g ∙ from-passes f (r + 1) n (omega arith)) in
+          absurd (omega arith)
+      last-one m (no l) = let h = from-most f (r + 1) n in omega arith
 
 -- a loop that goes from one that passes to the next, among the numbers below n; it looks as far as m
 abbrev pub Found : (ℕ → Bool) → ℕ → (ℕ → Type 0) → ℕ → Type 0

@@ -11,12 +11,10 @@
 --   meets-reflects, inside-reflects, alone-reflects    the tests decide what they say
 --   sift-all, both-member, meets-at, inside-at         the same with no bound on the numbers
 --   misses-either                what meets no number of two sets together meets none of either
---   combined, meets-words, inside-words, empty-words   the same word by word, as the loops of the code go
+--   combined, meets-words, inside-words                the same word by word, as the loops of the code go
 --   row-length, row-at, row-same, row-other, row-behind, setRow-length     rows of a table; the words behind a row that is written
 --   row-whole                    k words, read as the first row of rows of k words, are those words
 --   row-only                     k words, written over k words, are what stands there
---   Met w i met                  the words before word i hold exactly one number where met, and none where not
---   met-none, met-skip, met-first, met-again, met-many, met-end    a loop that looks for exactly one number, word by word
 use mathlib.Core.Path.{_≡_, refl, sym, _∙_, ap, subst}
 use mathlib.Core.Logic.{_↔_}
 use mathlib.Core.Bool.{Bool, true, false, not, _||_, _&&_, true≢false, false≢true, or-true, or-false, and-true, and-false, Bool·not-not}
@@ -31,17 +29,17 @@ use lib.Count.{trailingZeros}
 use lib.Pow.{shr-le}
 use lib.ListN.{length, getD, set, length-set, List·getD-eq-default}
 use lib.Seq.{ext-getD, set-out, getD-set-same, getD-set-other}
-use borrow.Author.Tests.{not-false, lt-ltb, eq-eqb, ne-eqb}
+use borrow.Author.Tests.{lt-ltb, eq-eqb, ne-eqb}
 use Rattle.algebra.specs.Answer.{Reflects}
 use Rattle.algebra.specs.Loops.{any, every, fold, picks, tabulate}
 use Rattle.algebra.specs.Sets.{bit, maskOf}
-use Rattle.algebra.specs.Words.{wordBits, setBit, clearBit, Words, member, putIn, takeOut, sift, bothOf, eitherOf, lessOf, meetsOf, insideOf, emptyOf, aloneOf, rowOf, setRow}
-use Rattle.algebra.proofs.AnswerLaws.{reflects-yes, reflects-no, reflects-true, reflects-false, reflects-iff, reflects-not, reflects-and}
-use Rattle.algebra.proofs.LoopLaws.{and-parts, any-none, any-some, any-same, any-last, any-add, every-same, every-not, reflects-any, reflects-test, reflects-lone}
+use Rattle.algebra.specs.Words.{wordBits, setBit, clearBit, Words, member, putIn, takeOut, sift, bothOf, eitherOf, lessOf, meetsOf, insideOf, aloneOf, rowOf, setRow}
+use Rattle.algebra.proofs.AnswerLaws.{reflects-no, reflects-false, reflects-iff, reflects-not, reflects-and}
+use Rattle.algebra.proofs.LoopLaws.{and-parts, any-none, any-same, any-last, any-add, every-same, every-not, reflects-any, reflects-test, reflects-lone}
 use Rattle.algebra.proofs.LoopLaws.{length-tabulate, getD-tabulate, tabulate-same}
 use Rattle.algebra.proofs.SetTests.{isOn-picks, picks-within}
 use Rattle.algebra.proofs.BitLaws.{mask-below, bit-mask}
-use Rattle.algebra.proofs.BitOps.{bit-and, bits-same, bit-high, bit-none, bit-shift, lowest-bit, bit-set, bit-clear, set-low, clear-low, zero-bits, inside-bits, lone-bit}
+use Rattle.algebra.proofs.BitOps.{bit-and, bits-same, bit-high, bit-none, bit-shift, lowest-bit, bit-set, bit-clear, set-low, clear-low, zero-bits, inside-bits}
 
 -- ---- members by word and bit
 
@@ -355,13 +353,6 @@ inside-words k v w p q =
         ∙ ap not (any-same (λ j. bit (getD v i 0) j && not (bit (getD w i 0) j)) (λ j. member v (wordBits * i + j) && not (member w (wordBits * i + j))) wordBits
         (λ j l. λ n. bit-member v i j l n && not (bit-member w i j l n)))
 
-pub empty-words : (k : ℕ) (v : List ℕ) → Words k v → every k (λ i. eqb (getD v i 0) 0) ≡ emptyOf v
-unfolding emptyOf
-empty-words k v p =
-    every-same (λ i. eqb (getD v i 0) 0) (λ i. not (any wordBits (λ j. member v (wordBits * i + j)))) k
-    (λ i l. zero-bits wordBits (getD v i 0) (p .1 i) ∙ ap not (any-same (bit (getD v i 0)) (λ j. member v (wordBits * i + j)) wordBits (bit-member v i)))
-    ∙ every-not (λ i. any wordBits (λ j. member v (wordBits * i + j))) k ∙ ap not (any-words (member v) k ∙ ap (λ (n : ℕ). any (wordBits * n) (member v)) (sym (p .0)))
-
 -- ---- rows
 
 pub row-length : (k : ℕ) (t : List ℕ) (p : ℕ) → length (rowOf k t p) ≡ k
@@ -432,92 +423,3 @@ module _ (k : ℕ) where
 
   pub row-only : (t w : List ℕ) → length t ≡ k → length w ≡ k → setRow t 0 w ≡ w
   row-only t w e f = sym (row-whole (setRow t 0 w) (setRow-length t 0 w ∙ e)) ∙ row-same k t 0 w f (omega arith)
-
--- ---- exactly one number, word by word
-
-abbrev pub Met : List ℕ → ℕ → Bool → Type 0
-Met w i true = (r : ℕ) × (r < wordBits * i) × (member w r ≡ true) × ((s : ℕ) → s < wordBits * i → member w s ≡ true → s ≡ r)
-Met w i false = (r : ℕ) → r < wordBits * i → member w r ≡ false
-
--- a number of word i, by its bit
-member-word : (w : List ℕ) (i r : ℕ) → wordBits * i ≤ r → r < wordBits * (i + 1) → member w r ≡ bit (getD w i 0) (r - wordBits * i)
-member-word w i r h l = member-here w i r (omega arith) ∙ ap (bit (getD w i 0)) (let e : r % wordBits ≡ r - wordBits * i = omega arith in e)
-
--- a word x that is not 0 has a bit, and exactly one where x and x - 1 have none in common
-word-some : (k : ℕ) (w : List ℕ) (i : ℕ) → Words k w → (getD w i 0 ≡ 0 → ⊥) → (j : ℕ) × (j < wordBits) × (bit (getD w i 0) j ≡ true)
-word-some k w i v ne = any-some (bit (getD w i 0)) wordBits (not-false (any wordBits (bit (getD w i 0))) (sym (zero-bits wordBits (getD w i 0) (v .1 i)) ∙ ne-eqb (getD w i 0) 0 ne))
-
-word-one : (k : ℕ) (w : List ℕ) (i : ℕ) → Words k w → (getD w i 0 ≡ 0 → ⊥)
-    → Reflects ((j : ℕ) × (j < wordBits) × (bit (getD w i 0) j ≡ true) × ((l : ℕ) → l < wordBits → bit (getD w i 0) l ≡ true → l ≡ j)) (eqb (bitAnd (getD w i 0) (getD w i 0 - 1)) 0)
-word-one k w i v ne =
-    subst (Reflects ((j : ℕ) × (j < wordBits) × (bit (getD w i 0) j ≡ true) × ((l : ℕ) → l < wordBits → bit (getD w i 0) l ≡ true → l ≡ j)))
-    (sym (lone-bit wordBits (getD w i 0) (v .1 i) (omega arith))) (reflects-lone (bit (getD w i 0)) wordBits)
-
-pub met-none : (w : List ℕ) → Met w 0 false
-met-none w r h = absurd (omega arith)
-
-pub met-skip : (w : List ℕ) (i : ℕ) (met : Bool) {x : ℕ} → x ≡ getD w i 0 → x ≡ 0 → Met w i met → Met w (i + 1) met
-met-skip w i met {x} e z m = go met m
-  where
-    empty : (r : ℕ) → wordBits * i ≤ r → r < wordBits * (i + 1) → member w r ≡ false
-    empty r h l = member-word w i r h l ∙ ap (λ (y : ℕ). bit y (r - wordBits * i)) (sym e ∙ z) ∙ bit-none (r - wordBits * i)
-
-    go : (b : Bool) → Met w i b → Met w (i + 1) b
-    go false m = λ r l. at r l (decLt r (wordBits * i))
-      where
-        at : (r : ℕ) → r < wordBits * (i + 1) → Dec (r < wordBits * i) → member w r ≡ false
-        at r l (yes h) = m r h
-        at r l (no h) = empty r (omega arith) l
-    go true m = (m .0, let l = m .1 in omega arith, m .2, λ s l t. at s l t (decLt s (wordBits * i)))
-      where
-        at : (s : ℕ) → s < wordBits * (i + 1) → member w s ≡ true → Dec (s < wordBits * i) → s ≡ m .0
-        at s l t (yes h) = m .3 s h t
-        at s l t (no h) = absurd (true≢false (sym t ∙ empty s (omega arith) l))
-
-pub met-first : (k : ℕ) (w : List ℕ) (i : ℕ) (met : Bool) {x : ℕ} → Words k w → x ≡ getD w i 0 → (x ≡ 0 → ⊥) → eqb (bitAnd x (x - 1)) 0 ≡ true → met ≡ false → Met w i met → Met w (i + 1) true
-met-first k w i met {x} v e ne o f m = go (reflects-yes (word-one k w i v (λ z. ne (e ∙ z))) (subst (λ (y : ℕ). eqb (bitAnd y (y - 1)) 0 ≡ true) e o)) (subst (Met w i) f m)
-  where
-    go : (j : ℕ) × (j < wordBits) × (bit (getD w i 0) j ≡ true) × ((l : ℕ) → l < wordBits → bit (getD w i 0) l ≡ true → l ≡ j) → Met w i false → Met w (i + 1) true
-    go q n = (wordBits * i + q .0, let l = q .1 in omega arith, sym (bit-member w i (q .0) (q .1)) ∙ q .2, λ s l t. at s l t (decLt s (wordBits * i)))
-      where
-        at : (s : ℕ) → s < wordBits * (i + 1) → member w s ≡ true → Dec (s < wordBits * i) → s ≡ wordBits * i + q .0
-        at s l t (yes h) = absurd (true≢false (sym t ∙ n s h))
-        at s l t (no h) =
-            let p : wordBits * i ≤ s = omega arith in
-            let z : s - wordBits * i ≡ q .0 = q .3 (s - wordBits * i) (omega arith) (sym (member-word w i s p l) ∙ t) in
-            omega arith
-
-pub met-again : (k : ℕ) (w : List ℕ) (i : ℕ) (met : Bool) {x : ℕ} → Words k w → i < k → x ≡ getD w i 0 → (x ≡ 0 → ⊥) → met ≡ true → Met w i met → false ≡ aloneOf w
-met-again k w i met {x} v h e ne f m = sym (reflects-false (alone-reflects w) (go (word-some k w i v (λ z. ne (e ∙ z))) (subst (Met w i) f m)))
-  where
-    go : (j : ℕ) × (j < wordBits) × (bit (getD w i 0) j ≡ true) → Met w i true
-        → (r : ℕ) × (r < wordBits * length w) × (member w r ≡ true) × ((s : ℕ) → s < wordBits * length w → member w s ≡ true → s ≡ r) → ⊥
-    go q n a =
-        let c = v .0 in
-        let y = q .1 in
-        let y′ = n .1 in
-        let z : wordBits * i + q .0 ≡ a .0 = a .3 (wordBits * i + q .0) (omega arith) (sym (bit-member w i (q .0) (q .1)) ∙ q .2) in
-        let z′ : n .0 ≡ a .0 = a .3 (n .0) (omega arith) (n .2) in
-        omega arith
-
-pub met-many : (k : ℕ) (w : List ℕ) (i : ℕ) {x : ℕ} → Words k w → i < k → x ≡ getD w i 0 → (x ≡ 0 → ⊥) → eqb (bitAnd x (x - 1)) 0 ≡ false → false ≡ aloneOf w
-met-many k w i {x} v h e ne o =
-    sym (reflects-false (alone-reflects w)
-    (λ a. reflects-no (word-one k w i v (λ z. ne (e ∙ z))) (subst (λ (y : ℕ). eqb (bitAnd y (y - 1)) 0 ≡ false) e o) (go (word-some k w i v (λ z. ne (e ∙ z))) a)))
-  where
-    go : (j : ℕ) × (j < wordBits) × (bit (getD w i 0) j ≡ true) → (r : ℕ) × (r < wordBits * length w) × (member w r ≡ true) × ((s : ℕ) → s < wordBits * length w → member w s ≡ true → s ≡ r)
-        → (j : ℕ) × (j < wordBits) × (bit (getD w i 0) j ≡ true) × ((l : ℕ) → l < wordBits → bit (getD w i 0) l ≡ true → l ≡ j)
-    go q a = (q .0, q .1, q .2, λ l m t. same l (at l m t) (at (q .0) (q .1) (q .2)))
-      where
-        at : (j : ℕ) → j < wordBits → bit (getD w i 0) j ≡ true → wordBits * i + j ≡ a .0
-        at j m t = a .3 (wordBits * i + j) (let c = v .0 in omega arith) (sym (bit-member w i j m) ∙ t)
-
-        same : (l : ℕ) → wordBits * i + l ≡ a .0 → wordBits * i + q .0 ≡ a .0 → l ≡ q .0
-        same l y z = omega arith
-
-pub met-end : (k : ℕ) (w : List ℕ) (i : ℕ) (met : Bool) → Words k w → i ≤ k → k ≤ i → Met w i met → met ≡ aloneOf w
-met-end k w i met v h l m = go met (subst (λ (n : ℕ). Met w n met) (let c = v .0 in let e : i ≡ length w = omega arith in e) m)
-  where
-    go : (b : Bool) → Met w (length w) b → b ≡ aloneOf w
-    go true m = sym (reflects-true (alone-reflects w) m)
-    go false m = sym (reflects-false (alone-reflects w) (λ a. true≢false (sym (a .2) ∙ m (a .0) (a .1))))

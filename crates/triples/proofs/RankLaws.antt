@@ -29,7 +29,7 @@ use Rattle.algebra.specs.Sets.{isOn, Within, Lex}
 use Rattle.algebra.specs.Places.{choose, laterOf, setBy, upFrom, isLast, nextOf}
 use Rattle.algebra.specs.Words.{wordBits}
 use Rattle.algebra.proofs.SetTests.{set-at, place-in, place-at, place-lex}
-use Rattle.algebra.proofs.ChooseLaws.{choose-none, choose-grows}
+use Rattle.algebra.proofs.ChooseLaws.{choose-none, choose-one, choose-grows}
 use Rattle.algebra.proofs.PlaceLaws.{sets-count, place-later, set-by, set-first, next-place}
 use Rattle.shots.specs.Sizes.{shotsMost}
 use Rattle.triples.specs.Sizes.{wordCount, triplesMost}
@@ -75,11 +75,11 @@ pub count-choose : (n : ℕ) → tripleCount n ≡ choose n 3
 unfolding tripleCount
 count-choose n = sets-count 3 n
 
-pub rank-later : (n i j k : ℕ) → i < j → j < k → k < n → rankOf n (i ∷ j ∷ k ∷ []) + suc (choose (n - 1 - i) 3 + choose (n - 1 - j) 2 + choose (n - 1 - k) 1) ≡ tripleCount n
+pub rank-later : (n i j k : ℕ) → i < j → j < k → k < n → rankOf n (i ∷ j ∷ k ∷ []) + suc (choose (n - 1 - i) 3 + choose (n - 1 - j) 2 + (n - 1 - k)) ≡ tripleCount n
 unfolding rankOf laterOf
 rank-later n i j k h l u =
     let e = place-later 3 n (i ∷ j ∷ k ∷ []) (omega arith, omega arith, (omega arith, omega arith, (omega arith, u, tt))) refl in
-    omega (arith, count-choose n)
+    omega (arith, count-choose n, choose-one (n - 1 - k))
 
 pub triple-by : (n r : ℕ) → r < tripleCount n → tripleAt n r ≡ setBy 3 0 n r
 unfolding tripleAt

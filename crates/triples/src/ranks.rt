@@ -98,6 +98,6 @@ pub fn rank(n: usize, i: usize, j: usize, k: usize) -> usize
     requires { ⌜ (i < j) × (j < k) × (k < n) × (n ≤ shotsMost) ⌝ }
     ensures { λ r. ⌜ r ≡ rankOf n (i ∷ j ∷ k ∷ []) ⌝ }
 {
-    let after = choose(n - 1 - i, 3) + choose(n - 1 - j, 2) + choose(n - 1 - k, 1);
+    let after = choose(n - 1 - i, 3) + choose(n - 1 - j, 2) + (n - 1 - k);
     count(n) - 1 - after
 }

@@ -176,34 +176,16 @@ pub fn inside(a: Triples, b: Triples) -> bool
 pub fn is_empty(a: Triples) -> bool
     ensures { λ r. ⌜ r ≡ emptyOf (wordsOf a) ⌝ }
 {
-    let mut i = 0;
-    while i < WORDS {
-        if word(a, i) != 0 {
-            return false;
-        }
-        i += 1;
-    }
-    true
+    from(a, 0) == WORD_BITS * WORDS
 }
 
-// Whether there is exactly one triple.
+// Whether there is exactly one triple: a first one, and none behind it.
 pub fn alone(a: Triples) -> bool
     ensures { λ r. ⌜ r ≡ aloneOf (wordsOf a) ⌝ }
 {
-    let mut met = false;
-    let mut i = 0;
-    while i < WORDS {
-        let x = word(a, i);
-        if x != 0 {
-            if met {
-                return false;
-            }
-            if x & (x - 1) != 0 {
-                return false;
-            }
-            met = true;
-        }
-        i += 1;
+    let r = from(a, 0);
+    if r == WORD_BITS * WORDS {
+        return false;
     }
-    met
+    from(a, r + 1) == WORD_BITS * WORDS
 }

@@ -1,8 +1,7 @@
 -- `triples::holding::among` meets its contract.
-use mathlib.Core.Path.{_≡_, sym}
+use mathlib.Core.Path.{sym}
 use mathlib.Core.Bool.{or-false}
 use lib.Dec.{eqb}
-use borrow.Author.Needs.{needs}
 use borrow.Author.Tests.{eq-eqb, ne-eqb}
 use Rattle.algebra.specs.Sets.{isOn}
 use Rattle.triples.proofs.holding.among.Statement.{statement}

@@ -1,8 +1,7 @@
 -- `triples::ranks::first` meets its contract: the list at place r is the one at the place that is left, among those from the number reached on.
-use mathlib.Core.Path.{_≡_, refl, sym, _∙_}
-use Prim.Native.Nat.{ℕ, _+_, _-_, _<_, _≤_}
+use mathlib.Core.Path.{_≡_, refl, _∙_}
+use Prim.Native.Nat.{_+_, _-_, _<_}
 use native.Mathlib.Omega.{arith}
-use borrow.Author.Needs.{needs}
 use Rattle.algebra.specs.Places.{choose, setBy}
 use Rattle.algebra.proofs.PlaceLaws.{set-room, set-take, set-skip}
 use Rattle.triples.proofs.ranks.first.Statement.{statement}

@@ -13,7 +13,7 @@ use Rattle.triples.proofs.ranks.rank.Tie as tie
 
 module _ (s : tie.Start) where
   abbrev after : ℕ
-  after = choose (s .args .n - 1 - s .args .i) 3 + choose (s .args .n - 1 - s .args .j) 2 + choose (s .args .n - 1 - s .args .k) 1
+  after = choose (s .args .n - 1 - s .args .i) 3 + choose (s .args .n - 1 - s .args .j) 2 + (s .args .n - 1 - s .args .k)
 
   -- the triples before it, it, and those after it
   all : rankOf (s .args .n) (s .args .i ∷ s .args .j ∷ s .args .k ∷ []) + suc after ≡ tripleCount (s .args .n)
@@ -26,15 +26,15 @@ add-after : tie.Need-add-after
 add-after c = omega (arith, few (c .before .before), c .before .choose .ensures, c .choose2 .ensures)
 
 add-after-2 : tie.Need-add-after-2
-add-after-2 c = omega (arith, few (c .before .before .before), c .before .before .choose .ensures, c .before .choose2 .ensures, c .choose3 .ensures)
+add-after-2 c = omega (arith, few (c .before .before), c .before .choose .ensures, c .choose2 .ensures)
 
 -- what the code adds up is how many come after it
 module _ (c : tie.After-count) where
   abbrev start : tie.Start
-  start = c .before .before .before .before
+  start = c .before .before .before
 
-  sum : c .before .before .before .choose .result + c .before .before .choose2 .result + c .before .choose3 .result ≡ after start
-  sum = λ z. c .before .before .before .choose .ensures z + c .before .before .choose2 .ensures z + c .before .choose3 .ensures z
+  sum : c .before .before .choose .result + c .before .choose2 .result + (start .args .n - 1 - start .args .k) ≡ after start
+  sum = λ z. c .before .before .choose .ensures z + c .before .choose2 .ensures z + (start .args .n - 1 - start .args .k)
 
 sub-result : tie.Need-sub-result
 sub-result c = omega (arith, all (start c), c .count .ensures)
@@ -58,7 +58,6 @@ rank-spec =
     add-after
     (λ c. search needs)
     (λ c. search needs)
-    (λ c κs. search needs)
     add-after-2
     (λ c κs. search needs)
     sub-result
