@@ -50,11 +50,14 @@ fn first(k: usize, a: usize, n: usize, r: usize) -> Head
 {
     let mut number = a;
     let mut rest = r;
-    while choose(n - 1 - number, k) <= rest {
-        rest -= choose(n - 1 - number, k);
+    loop {
+        let begun = choose(n - 1 - number, k);
+        if rest < begun {
+            return Head { number, rest };
+        }
+        rest -= begun;
         number += 1;
     }
-    Head { number, rest }
 }
 
 // The triple of rank r.
@@ -76,14 +79,16 @@ pub fn next(n: usize, i: usize, j: usize, k: usize) -> Triple
     requires { ⌜ (i < j) × (j < k) × (k < n) × (n ≤ shotsMost) ⌝ }
     ensures { λ t. ⌜ t .i ∷ t .j ∷ t .k ∷ [] ≡ nextOf n (i ∷ j ∷ k ∷ []) ⌝ }
 {
-    if k + 1 < n {
-        return Triple { i, j, k: k + 1 };
+    let third = k + 1;
+    if third < n {
+        return Triple { i, j, k: third };
     }
-    if j + 2 < n {
+    let last = j + 2;
+    if last < n {
         return Triple {
             i,
             j: j + 1,
-            k: j + 2,
+            k: last,
         };
     }
     Triple {

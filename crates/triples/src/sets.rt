@@ -4,8 +4,6 @@ ghost use Prim.Native.Nat.{_*_, _<_};
 ghost use lib.ListN.{getD, set, replicate};
 ghost use Rattle.algebra.specs.Words.{wordBits, member, putIn, takeOut, bothOf, eitherOf, lessOf, meetsOf, insideOf, emptyOf, aloneOf};
 ghost use Rattle.algebra.specs.Loops.{firstFrom};
-ghost use Rattle.algebra.specs.Sets.{bit};
-ghost use Rattle.algebra.specs.Words.{setBit, clearBit};
 ghost use Rattle.triples.specs.Sizes.{wordCount};
 ghost use Rattle.triples.specs.Sets.{wordsOf};
 use super::Triples;
@@ -41,36 +39,13 @@ pub fn none() -> Triples
     Triples { low: 0, high: 0 }
 }
 
-// ---- one bit of a word
-
-fn test_bit(x: u64, k: usize) -> bool
-    requires { ⌜ k < wordBits ⌝ }
-    ensures { λ r. ⌜ r ≡ bit x k ⌝ }
-{
-    (x >> k) & 1 == 1
-}
-
-fn set_bit(x: u64, k: usize) -> u64
-    requires { ⌜ k < wordBits ⌝ }
-    ensures { λ r. ⌜ r ≡ setBit x k ⌝ }
-{
-    x | (1 << k)
-}
-
-fn clear_bit(x: u64, k: usize) -> u64
-    requires { ⌜ k < wordBits ⌝ }
-    ensures { λ r. ⌜ r ≡ clearBit x k ⌝ }
-{
-    x & !(1 << k)
-}
-
 // ---- one triple by its rank
 
 pub fn has(list: Triples, r: usize) -> bool
     requires { ⌜ r < wordBits * wordCount ⌝ }
     ensures { λ b. ⌜ b ≡ member (wordsOf list) r ⌝ }
 {
-    test_bit(word(list, r / WORD_BITS), r % WORD_BITS)
+    (word(list, r / WORD_BITS) >> (r % WORD_BITS)) & 1 == 1
 }
 
 pub fn with(list: Triples, r: usize) -> Triples
@@ -78,7 +53,7 @@ pub fn with(list: Triples, r: usize) -> Triples
     ensures { λ t. ⌜ wordsOf t ≡ putIn (wordsOf list) r ⌝ }
 {
     let q = r / WORD_BITS;
-    with_word(list, q, set_bit(word(list, q), r % WORD_BITS))
+    with_word(list, q, word(list, q) | (1 << (r % WORD_BITS)))
 }
 
 pub fn without(list: Triples, r: usize) -> Triples
@@ -86,7 +61,7 @@ pub fn without(list: Triples, r: usize) -> Triples
     ensures { λ t. ⌜ wordsOf t ≡ takeOut (wordsOf list) r ⌝ }
 {
     let q = r / WORD_BITS;
-    with_word(list, q, clear_bit(word(list, q), r % WORD_BITS))
+    with_word(list, q, word(list, q) & !(1 << (r % WORD_BITS)))
 }
 
 // The least rank of the list from r on; past the last bit where there is none.

@@ -20,20 +20,21 @@ room l = set-room (l .before .args .k) (l .loop .number) (l .before .args .n) (l
 loop-holds : tie.Need-loop-holds Inv-loop μ-loop
 loop-holds c = (c .pre .1, refl)
 
--- those that begin with the number reached are passed over
-loop-again : tie.Need-loop-again Inv-loop μ-loop
-loop-again c =
-    let l = c .before .before .before in
-    let s = l .before in
-    let p = set-skip (s .args .k) (l .loop .number) (s .args .n) (l .loop .rest) (l .loop .inv .0) (omega (arith, c .before .before .choose .ensures, c .before .if1 .taken)) in
-    rw (c .choose2 .ensures) (p .0, l .loop .inv .1 ∙ p .1)
-
 returns : tie.Need-returns Inv-loop μ-loop
 returns c =
     let l = c .before .before in
     let s = l .before in
-    let h : l .loop .rest < choose (s .args .n - 1 - l .loop .number) (s .args .k) = omega (arith, c .before .choose .ensures, c .if1 .left) in
+    let h : l .loop .rest < choose (s .args .n - 1 - l .loop .number) (s .args .k) = omega (arith, c .before .choose .ensures, c .if1 .taken) in
     (room l, h, l .loop .inv .1 ∙ set-take (s .args .k) (l .loop .number) (s .args .n) (l .loop .rest) (l .loop .inv .0) h)
+
+-- those that begin with the number reached are passed over
+loop-again : tie.Need-loop-again Inv-loop μ-loop
+loop-again c =
+    let d = c .before in
+    let l = d .before in
+    let s = l .before in
+    let p = set-skip (s .args .k) (l .loop .number) (s .args .n) (l .loop .rest) (l .loop .inv .0) (omega (arith, d .choose .ensures, c .if1 .left)) in
+    rw (d .choose .ensures) (p .0, l .loop .inv .1 ∙ p .1)
 
 pub first-spec : {M : Type 1} → statement M
 first-spec =
@@ -45,11 +46,7 @@ first-spec =
     (λ c. omega (arith, room c))
     (λ c. omega (arith, room c))
     (λ c κs. omega (arith, c .before .pre .0))
+    returns
+    (λ c. omega (arith, room (c .before .before), c .before .before .before .pre .0))
     (λ c. omega (arith, room (c .before .before)))
-    (λ c. omega (arith, room (c .before .before)))
-    (λ c κs. omega (arith, c .before .before .before .pre .0))
-    (λ c. omega (arith, c .choose2 .ensures, c .before .before .choose .ensures, c .before .if1 .taken))
-    (λ c. omega (arith, room (c .before .before .before), c .before .before .before .before .pre .0))
-    (λ c. omega (arith, room (c .before .before .before)))
-    loop-again
-    returns)
+    loop-again)

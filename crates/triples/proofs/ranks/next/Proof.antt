@@ -21,9 +21,7 @@ next-spec =
     tie.close
     (tie.spec
     (λ c. search needs)
-    (λ c. search needs)
     returns
-    (λ c. search needs)
     (λ c. search needs)
     (λ c. search needs)
     returns-2
