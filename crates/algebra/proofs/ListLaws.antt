@@ -1,7 +1,7 @@
 -- Places in a list, a member and the others, and lists whose members are apart.
 --
 --   getD-mem, mem-getD    what stands at a place is in the list, and what is in the list stands at a place
---   map-append, getD-map  a mapped list, in two parts and at a place
+--   getD-map              what stands at a place of a mapped list, whatever stands for no place
 --   some-member           a member with a property, or none has it
 --   each-cons, neither    what each member of a list has, and what is no member of it, from its head on
 --   Split a xs            xs as what stands before a, a itself, and what stands behind it; `split-at`: a member splits its list
@@ -25,10 +25,6 @@ use native.Mathlib.Nat.{not-suc-le-zero}
 use lib.ListN.{length, getD, length-append}
 
 module _ {A B : Type 0} (g : A → B) where
-  pub map-append : (xs ys : List A) → map g (xs ++ ys) ≡ map g xs ++ map g ys
-  map-append [] ys = refl
-  map-append (x ∷ xs) ys = ap (λ (t : List B). g x ∷ t) (map-append xs ys)
-
   pub getD-map : (xs : List A) (i : ℕ) (d : A) (e : B) → i < length xs → getD (map g xs) i e ≡ g (getD xs i d)
   getD-map [] i d e h = absurd (not-suc-le-zero h)
   getD-map (x ∷ xs) zero d e h = refl

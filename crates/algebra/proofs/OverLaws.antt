@@ -14,7 +14,7 @@
 --   over-apart     members of one part apart, and members of different parts apart: all apart
 use mathlib.Core.Path.{_≡_, refl, sym, _∙_, ap, subst}
 use mathlib.Core.Logic.{_⊎_, inl, inr}
-use mathlib.Core.List.{List, [], _++_, map, append-assoc, append-nil, List·Memᴰ, List·Memᴰ·not-nil, Memᴰ·append-left, Memᴰ·append-right, List·Memᴰ·append-cases}
+use mathlib.Core.List.{List, [], _++_, map, map-append, append-assoc, append-nil, List·Memᴰ, List·Memᴰ·not-nil, Memᴰ·append-left, Memᴰ·append-right, List·Memᴰ·append-cases}
 use Prim.Native.Nat.{ℕ, zero, suc, _+_, _-_, _*_, _<_, _≤_}
 use native.Mathlib.Omega.{arith}
 use native.Mathlib.Nat.{add-zero, mul-suc}
@@ -23,7 +23,7 @@ use native.Mathlib.Decide.{ℕ-discrete}
 use lib.ListN.{length, take, drop, length-append}
 use lib.Seq.{take-add, drop-drop}
 use Rattle.algebra.specs.Loops.{run, over}
-use Rattle.algebra.proofs.ListLaws.{Apart, apart-append, map-append}
+use Rattle.algebra.proofs.ListLaws.{Apart, apart-append}
 
 module _ {A : Type 0} (f : ℕ → List A) where
   pub over-turn : (i n : ℕ) → i < n → over f i n ≡ f i ++ over f (i + 1) n

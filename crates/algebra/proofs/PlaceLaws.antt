@@ -4,7 +4,7 @@
 --   place-later     the lists before s, s itself and those after it are all of them: the place of s, by how many come after it
 --   set-by          the list at place r is `setBy`
 --   set-one         of lists of one number
---   set-skip, set-take    `setBy` from one number to the next: what a loop over the first number wants
+--   set-room, set-skip, set-take    `setBy` from one number to the next: what a loop over the first number wants
 --   set-first       the first list: the numbers from 0 on
 --   next-place      `nextOf` is the list at the next place
 use mathlib.Core.Path.{_≡_, refl, sym, _∙_, ap, subst}

@@ -38,13 +38,13 @@ pub fn count(n: usize) -> usize
 }
 
 // The first number of a list of numbers, and the place of the others among the lists that begin with it.
-struct Head {
+struct Leading {
     number: usize,
     rest: usize,
 }
 
 // So for the list at place r among those of k + 1 of the numbers from a to n - 1: the lists that begin with an earlier number are passed over.
-fn first(k: usize, a: usize, n: usize, r: usize) -> Head
+fn head(k: usize, a: usize, n: usize, r: usize) -> Leading
     requires { ⌜ (n ≤ shotsMost) × (r < choose (n - a) (k + 1)) ⌝ }
     ensures { λ f. ⌜ (f .number < n) × (f .rest < choose (n - 1 - f .number) k) × (setBy (k + 1) a (n - a) r ≡ f .number ∷ setBy k (f .number + 1) (n - 1 - f .number) (f .rest)) ⌝ }
 {
@@ -53,7 +53,7 @@ fn first(k: usize, a: usize, n: usize, r: usize) -> Head
     loop {
         let begun = choose(n - 1 - number, k);
         if rest < begun {
-            return Head { number, rest };
+            return Leading { number, rest };
         }
         rest -= begun;
         number += 1;
@@ -65,8 +65,8 @@ pub fn triple_at(n: usize, r: usize) -> Triple
     requires { ⌜ (n ≤ shotsMost) × (r < tripleCount n) ⌝ }
     ensures { λ t. ⌜ t .i ∷ t .j ∷ t .k ∷ [] ≡ tripleAt n r ⌝ }
 {
-    let a = first(2, 0, n, r);
-    let b = first(1, a.number + 1, n, a.rest);
+    let a = head(2, 0, n, r);
+    let b = head(1, a.number + 1, n, a.rest);
     Triple {
         i: a.number,
         j: b.number,
@@ -83,12 +83,12 @@ pub fn next(n: usize, i: usize, j: usize, k: usize) -> Triple
     if third < n {
         return Triple { i, j, k: third };
     }
-    let last = j + 2;
-    if last < n {
+    let third = j + 2;
+    if third < n {
         return Triple {
             i,
             j: j + 1,
-            k: last,
+            k: third,
         };
     }
     Triple {

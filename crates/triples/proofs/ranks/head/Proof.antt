@@ -1,11 +1,11 @@
--- `triples::ranks::first` meets its contract: the list at place r is the one at the place that is left, among those from the number reached on.
+-- `triples::ranks::head` meets its contract: the list at place r is the one at the place that is left, among those from the number reached on.
 use mathlib.Core.Path.{_≡_, refl, _∙_}
 use Prim.Native.Nat.{_+_, _-_, _<_}
 use native.Mathlib.Omega.{arith}
 use Rattle.algebra.specs.Places.{choose, setBy}
 use Rattle.algebra.proofs.PlaceLaws.{set-room, set-take, set-skip}
-use Rattle.triples.proofs.ranks.first.Statement.{statement}
-use Rattle.triples.proofs.ranks.first.Tie as tie
+use Rattle.triples.proofs.ranks.head.Statement.{statement}
+use Rattle.triples.proofs.ranks.head.Tie as tie
 
 abbrev Inv-loop : tie.InvT-loop
 Inv-loop k a n r number₀ rest₀ number rest = (rest < choose (n - number) (k + 1)) × (setBy (k + 1) a (n - a) r ≡ setBy (k + 1) number (n - number) rest)
@@ -36,8 +36,8 @@ loop-again c =
     let p = set-skip (s .args .k) (l .loop .number) (s .args .n) (l .loop .rest) (l .loop .inv .0) (omega (arith, d .choose .ensures, c .if1 .left)) in
     rw (d .choose .ensures) (p .0, l .loop .inv .1 ∙ p .1)
 
-pub first-spec : {M : Type 1} → statement M
-first-spec =
+pub head-spec : {M : Type 1} → statement M
+head-spec =
     tie.close
     (tie.spec
     Inv-loop
