@@ -25,21 +25,22 @@
 --   reflects-by, reflects-stable, reflects-dec      a test by its two cases; a decided statement that is not false holds; it holds or not
 --   reflects-agree  two tests of one statement agree
 --   reflects-iff, reflects-not, reflects-or, reflects-and       tests that decide what is made of statements
---   reflects-ltb, reflects-leb, reflects-eqb, reflects-eqZ      the tests of numbers
+--   reflects-ltb, reflects-leb, reflects-eqb, reflects-eqZ, reflects-ltZ      the tests of numbers
 --   reflects-minus, reflects-nought                 the tests of the sign of a number
 --   is-minus, is-nought, is-plus    the tests of a sign
 use mathlib.Core.Path.{_≡_, refl, sym, _∙_, ap}
 use mathlib.Core.Logic.{_⊎_, inl, inr, _↔_}
 use mathlib.Core.Bool.{Bool, true, false, cond, not, _||_, _&&_, true≢false, false≢true}
 use mathlib.Core.List.{List, [], _∷_, _++_}
-use Prim.Native.Nat.{ℕ, _≤_, _<_}
+use Prim.Native.Nat.{ℕ, zero, suc, _+_, _-_, _≤_, _<_}
 use native.Mathlib.Omega.{arith}
 use lib.Dec.{ltb, leb, eqb}
-use lib.IntN.{ℤ, pos, negsuc, pos-ne-negsuc}
-use borrow.Author.Tests.{ltb-true, ltb-false, leb-true, leb-false, eqb-true, eqb-false}
+use lib.IntN.{ℤ, pos, negsuc, subℕ, _-ℤ_, -ℤ-+ℤ-cancel, pos-ne-negsuc}
+use lib.Signed.{ltZ}
+use borrow.Author.Tests.{le-ltb, ltb-true, ltb-false, leb-true, leb-false, eqb-true, eqb-false}
 use Rattle.algebra.specs.Answer.{Answer, gives, refuses, onValue, Rule, chain, refusal, Numbered, Line, First, Clear, Reflects, holds, fails, Decides}
-use Rattle.algebra.specs.Sign.{Sign, minus, nought, plus, signOf, Neg, isMinus, isNought, isPlus, eqZ}
-use Rattle.algebra.proofs.SignLaws.{neg-signOf, zero-signOf, signOf-neg, signOf-zero, plus-minus, plus-nought, minus-nought}
+use Rattle.algebra.specs.Sign.{Sign, minus, nought, plus, signOf, Pos, Neg, isMinus, isNought, isPlus, eqZ}
+use Rattle.algebra.proofs.SignLaws.{pos-cast, pos-nn-add, pos-zero, neg-signOf, zero-signOf, signOf-neg, signOf-zero, plus-minus, plus-nought, minus-nought}
 
 -- ---- the two kinds of answer
 
@@ -377,6 +378,25 @@ reflects-eqZ (pos m) (pos n) = reflects-iff (λ e. ap pos e, λ e. cc) (reflects
 reflects-eqZ (pos m) (negsuc n) = fails (pos-ne-negsuc m n)
 reflects-eqZ (negsuc m) (pos n) = fails (λ e. pos-ne-negsuc n m (sym e))
 reflects-eqZ (negsuc m) (negsuc n) = reflects-iff (λ e. ap negsuc e, λ e. cc) (reflects-eqb m n)
+
+-- b - a of two natural numbers, by any test of a < b
+reflects-sub : (a b : ℕ) (t : Bool) → (t ≡ true → a < b) → (t ≡ false → b ≤ a) → Reflects (Pos (subℕ b a)) t
+reflects-sub a b true h k = holds (record { by = b - suc a; is = ap (λ (t : Bool). cond t (negsuc (a - suc b)) (pos (b - a))) (le-ltb b a (let l = h refl in omega arith)) ∙ ap pos (let l = h refl in omega arith) })
+reflects-sub a b false h k = fails (go (ltb b a))
+  where
+    go : (t : Bool) → Pos (cond t (negsuc (a - suc b)) (pos (b - a))) → ⊥
+    go true p = pos-ne-negsuc (suc (p .by)) (a - suc b) (sym (p .is))
+    go false p = let l = k refl in pos-zero p (ap pos (omega arith))
+
+pub reflects-ltZ : (a b : ℤ) → Reflects (Pos (b -ℤ a)) (ltZ a b)
+reflects-ltZ (pos zero) (pos n) = reflects-iff (pos-cast from, pos-cast (sym from)) (reflects-sub 0 n (ltb 0 n) (ltb-true 0 n) (ltb-false 0 n))
+  where
+    from : subℕ n 0 ≡ pos n -ℤ pos 0
+    from = ap (λ (t : Bool). cond t (negsuc (0 - suc n)) (pos (n - 0))) (le-ltb n 0 (omega arith)) ∙ ap pos (omega arith)
+reflects-ltZ (pos (suc m)) (pos n) = reflects-sub (suc m) n (ltb (suc m) n) (ltb-true (suc m) n) (ltb-false (suc m) n)
+reflects-ltZ (pos m) (negsuc n) = fails (λ p. pos-ne-negsuc _ n (sym (pos-cast (-ℤ-+ℤ-cancel (negsuc n) (pos m)) (pos-nn-add p (record { by = m; is = refl })) .is)))
+reflects-ltZ (negsuc m) (pos n) = holds (record { by = n + m; is = ap pos (omega arith) })
+reflects-ltZ (negsuc m) (negsuc n) = reflects-sub (suc n) (suc m) (ltb n m) (λ t. let l = ltb-true n m t in omega arith) (λ t. let l = ltb-false n m t in omega arith)
 
 -- ---- signs
 

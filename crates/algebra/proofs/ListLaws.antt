@@ -12,10 +12,11 @@
 --   apart-middle          where all members are different, none stands a second time among the others
 --   places-apart          they are where no two places hold the same
 --   apart-fewer           a list of different members has at most as many as one that holds them all
+--   exactly-apart, exactly-length    a list of different members with a property; two such lists are of one length
 --   kept f xs             those of xs that pass f
 --   kept-in, kept-out, kept-apart    what is in it; its members are different where those of xs are
 use mathlib.Core.Path.{_≡_, refl, sym, _∙_, ap, subst}
-use mathlib.Core.Logic.{_⊎_, inl, inr, ⊎-elim}
+use mathlib.Core.Logic.{_⊎_, inl, inr, ⊎-elim, _↔_}
 use mathlib.Core.Bool.{Bool, true, false, cond, false≢true}
 use mathlib.Core.List.{List, [], _∷_, _++_, map, List·Memᴰ, List·Memᴰ·head, List·Memᴰ·tail, List·Memᴰ·cases-cons, List·Memᴰ·append-cases, List·Memᴰ·not-nil, Memᴰ·of-map}
 use mathlib.Core.List.{Memᴰ·append-left, Memᴰ·append-right}
@@ -23,6 +24,7 @@ use Prim.Native.Nat.{ℕ, zero, suc, _≤_, _<_}
 use native.Mathlib.Omega.{arith}
 use native.Mathlib.Nat.{not-suc-le-zero}
 use lib.ListN.{length, getD, length-append}
+use Rattle.algebra.specs.Sets.{Exactly}
 
 module _ {A B : Type 0} (g : A → B) where
   pub getD-map : (xs : List A) (i : ℕ) (d : A) (e : B) → i < length xs → getD (map g xs) i e ≡ g (getD xs i d)
@@ -129,6 +131,16 @@ apart-fewer {A} (x ∷ xs) ys p h = go (split-at x ys (h x (List·Memᴰ·head r
     go s ih =
         let fewer = ih (s .front ++ s .back) (p .1) (λ y m. ⊎-elim (λ e. absurd (p .0 y m (sym e))) (λ k. k) (middle (s .front) (s .back) (subst (List·Memᴰ y) (s .is) (h y (List·Memᴰ·tail m))))) in
         rw (s .is) (omega (arith, length-append (s .front) (x ∷ s .back), length-append (s .front) (s .back)))
+
+module _ {A : Type 0} {d : A} {Q : A → Type 0} where
+  pub exactly-apart : (xs : List A) → ((x : A) → List·Memᴰ x xs ↔ Q x) → Apart Other xs → Exactly d Q xs
+  exactly-apart xs h p = record { each = h; once = λ i j. apart-at Other xs d i j p }
+
+  exactly-fewer : {xs ys : List A} → Exactly d Q xs → Exactly d Q ys → length xs ≤ length ys
+  exactly-fewer {xs} {ys} p q = apart-fewer xs ys (places-apart d xs (p .once)) (λ x m. q .each x .1 (p .each x .0 m))
+
+  pub exactly-length : {xs ys : List A} → Exactly d Q xs → Exactly d Q ys → length xs ≡ length ys
+  exactly-length p q = omega (arith, exactly-fewer p q, exactly-fewer q p)
 
 -- those of a list that pass a test
 abbrev pub kept : {A : Type 0} → (A → Bool) → List A → List A

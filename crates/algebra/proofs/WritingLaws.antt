@@ -4,7 +4,7 @@
 --   wrote-append     one run, then another behind it
 --   wrote-parts      what stands before and behind the written run stays
 --   wrote-front, wrote-taken     a run written at the front: all, and the run itself
---   wrote-none, wrote-turn, wrote-end     a loop that writes one element a turn
+--   wrote-none, wrote-turn, wrote-end     a loop that writes one element a turn; `wrote-next`: whatever the place
 --   pieces-length    as many places as the pieces that are left have
 --   Putting f n t at i out next    of the pieces f 0, .. , f (n - 1), put at place at of t, those before i are there: out is what t is now, next the place behind them
 --   putting-none, putting-turn, putting-end    a loop that puts one piece a turn
@@ -77,18 +77,19 @@ module _ {A : Type 0} where
   pub wrote-none : (t : List A) (at : ℕ) (s : List A) → wrote t (at + 0) (drop 0 s) ≡ wrote t at s
   wrote-none t at s = ap (λ k. wrote t k s) (add-zero at)
 
-  pub wrote-turn : (t s : List A) (at i : ℕ) (d : A) → i < length s → wrote t (at + i) (drop i s) ≡ wrote (set t (at + i) (getD s i d)) (at + (i + 1)) (drop (i + 1) s)
+  pub wrote-next : (t s : List A) (at i : ℕ) (d : A) → i < length s → wrote t at (drop i s) ≡ wrote (set t at (getD s i d)) (at + 1) (drop (i + 1) s)
   unfolding wrote
-  wrote-turn t s at i d h =
-      ap (wrote t (at + i)) (drop-cons s i d h ∙ ap (λ k. getD s i d ∷ drop k s) (sym (add-one i)))
-      ∙ ap (λ k. wrote (set t (at + i) (getD s i d)) k (drop (i + 1) s)) (next at i)
+  wrote-next t s at i d h = ap (wrote t at) (drop-cons s i d h ∙ ap (λ k. getD s i d ∷ drop k s) (sym (add-one i)))
+
+  pub wrote-turn : (t s : List A) (at i : ℕ) (d : A) → i < length s → wrote t (at + i) (drop i s) ≡ wrote (set t (at + i) (getD s i d)) (at + (i + 1)) (drop (i + 1) s)
+  wrote-turn t s at i d h = wrote-next t s (at + i) i d h ∙ ap (λ k. wrote (set t (at + i) (getD s i d)) k (drop (i + 1) s)) (next at i)
     where
       next : (a k : ℕ) → a + k + 1 ≡ a + (k + 1)
       next a k = omega arith
 
-  pub wrote-end : (t s : List A) (at i : ℕ) → length s ≤ i → wrote t (at + i) (drop i s) ≡ t
+  pub wrote-end : (t s : List A) (at i : ℕ) → length s ≤ i → wrote t at (drop i s) ≡ t
   unfolding wrote
-  wrote-end t s at i h = ap (wrote t (at + i)) (drop-end s i h)
+  wrote-end t s at i h = ap (wrote t at) (drop-end s i h)
 
   -- ---- a loop that writes the pieces f i
 

@@ -8,6 +8,7 @@
 --   dropped n a s   the numbers below n that are in s, but for a
 --   Within a s n    s is increasing, and its numbers are from a to n - 1
 --   Lex s t         s comes before t in lexicographic order, for lists of one length
+--   Exactly d Q xs  xs holds each thing of which Q holds once, and nothing else; d stands for no place
 --   maskOf s        2 ^ i for each i of s, summed: the set as a mask
 --   bit x i         bit i of x is set
 --   setsOf k n      the increasing lists of k of the numbers below n, in lexicographic order
@@ -16,11 +17,12 @@
 --
 -- Laws: proofs/SetLaws, proofs/BitLaws.
 use mathlib.Core.Path.{_≡_}
-use mathlib.Core.Logic.{_⊎_}
+use mathlib.Core.Logic.{_⊎_, _↔_}
 use mathlib.Core.Bool.{Bool, true, false, not, cond, _||_, _&&_}
-use mathlib.Core.List.{List, [], _∷_}
+use mathlib.Core.List.{List, [], _∷_, List·Memᴰ}
 use Prim.Native.Nat.{ℕ, zero, suc, _+_, _/_, _%_, _^_, _≤_, _<_}
 use lib.Dec.{eqb}
+use lib.ListN.{length, getD}
 use Rattle.algebra.specs.Loops.{picks, over}
 
 unfoldable pub isOn : ℕ → List ℕ → Bool
@@ -54,6 +56,10 @@ abbrev pub Lex : List ℕ → List ℕ → Type 0
 Lex [] t = ⊥
 Lex (i ∷ s) [] = ⊥
 Lex (i ∷ s) (j ∷ t) = (i < j) ⊎ ((i ≡ j) × Lex s t)
+
+pub record Exactly {A : Type 0} (d : A) (Q : A → Type 0) (xs : List A) : Type 0 where
+  pub each : (x : A) → List·Memᴰ x xs ↔ Q x
+  pub once : (p q : ℕ) → p < q → q < length xs → getD xs p d ≡ getD xs q d → ⊥
 
 unfoldable pub maskOf : List ℕ → ℕ
 maskOf [] = 0

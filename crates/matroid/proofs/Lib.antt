@@ -21,6 +21,8 @@ pub mod Planar
 pub mod Sides
 pub mod Borders
 pub mod SideLaws
+pub mod Wrapping
+pub mod ChainLaws
 pub mod Apexes
 pub mod FlipStars
 pub mod FlipEdges

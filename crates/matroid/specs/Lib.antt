@@ -9,6 +9,7 @@
 --   section 3.4, T⁺(Z) and T⁻(Z), links, flips                    Flips
 --   document 01, shots in the plane                               Points: plane
 --   document 02, E1, sides                                        Borders: Side
+--   document 02, E5, the outline                                  Chains: Chain, Corner
 --
 -- Coordinates and weights are whole numbers, the paper's are real. For points with whole coordinates the two say the same: the dependencies on a set of points are the solutions of linear
 -- equations with whole coefficients, so where there is a real one other than 0 there is one in fractions, and a multiple of it in whole numbers, inside the same set. On a smallest dependent set
@@ -20,4 +21,5 @@ pub mod Dependencies
 pub mod Circuits
 pub mod Triangulations
 pub mod Borders
+pub mod Chains
 pub mod Flips

@@ -15,7 +15,7 @@ use lib.ListN.{getD, length, take, drop, replicate}
 use lib.Seq.{take-at}
 use lib.IntN.{ℤ, pos}
 use Rattle.algebra.specs.Answer.{Answer, gives, refuses, Rule, chain, refusal}
-use Rattle.algebra.specs.Writing.{wrote}
+use Rattle.algebra.specs.Writing.{wrote, bufferWith}
 use Rattle.algebra.proofs.AnswerLaws.{chain-broken, chain-kept, chain-stop, chain-after, chain-stops, chain-goes}
 use Rattle.algebra.proofs.AnswerLaws.{Unbroken, unbroken-gives, gives-unbroken, refusal-unbroken, append-unbroken}
 use Rattle.algebra.proofs.WritingLaws.{wrote-front, wrote-taken}
@@ -27,7 +27,7 @@ use Rattle.lists.specs.Tests.{listRules}
 use Rattle.lists.specs.Calls.{testOf}
 use Rattle.records.specs.Sizes.{coordinatesMost}
 use Rattle.records.specs.Reading.{patchFrame, coordinatesOf, patchRules, surfaceFrame, tripleRule, listedOf}
-use Rattle.records.specs.Calls.{coordinatesWith, readPatchOf, framedOf, readSurfaceOf, bufferWith, roomRule, writeOf}
+use Rattle.records.specs.Calls.{coordinatesWith, readPatchOf, framedOf, readSurfaceOf, roomRule, writeOf}
 use Rattle.records.proofs.FormatLaws.{patch-numbered, surface-numbered, coordinates-length, count-test}
 
 -- ---- the frame of a surface record

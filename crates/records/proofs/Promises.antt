@@ -21,7 +21,7 @@ use native.Mathlib.Omega.{arith}
 use lib.ListN.{getD, length, replicate, take, drop}
 use lib.IntN.{ℤ, pos}
 use Rattle.algebra.specs.Answer.{Answer, gives, refuses, Rule, Line, First, Clear, Decides}
-use Rattle.algebra.specs.Writing.{wrote}
+use Rattle.algebra.specs.Writing.{wrote, bufferWith, NoRoom}
 use Rattle.algebra.proofs.AnswerLaws.{chain-refuses, chain-gives, chain-refuses-upon, chain-gives-upon, one-answer, decides-append, clear-append, reflects-ltb}
 use Rattle.algebra.proofs.AnswerLaws.{Unbroken, gives-unbroken, unbroken-refusal, append-unbroken}
 use Rattle.shots.specs.Patch.{countOf}
@@ -40,9 +40,9 @@ use Rattle.records.specs.Sizes.{coordinatesMost}
 use Rattle.records.specs.Fields.{Bytes, fieldOf}
 use Rattle.records.specs.Formats.{patchBytes, surfaceBytes}
 use Rattle.records.specs.Reading.{coordinatesOf, patchFrame, patchRules, surfaceFrame, tripleRule, listedOf}
-use Rattle.records.specs.Lines.{readPatchLines, surfaceFrameLines, OutOfForm, readSurfaceLines, NoRoom, writePatchLines, writeSurfaceLines}
+use Rattle.records.specs.Lines.{readPatchLines, surfaceFrameLines, OutOfForm, readSurfaceLines, writePatchLines, writeSurfaceLines}
 use Rattle.records.specs.Calls.{readPatched, readWritten, PatchRead, readPatch, coordinatesWith, readPatchOf, readSurfaceOf}
-use Rattle.records.specs.Calls.{Writing, leftIn, bufferWith, roomRule, writeOf, writePatchOf, writeSurfaceOf}
+use Rattle.records.specs.Calls.{Writing, leftIn, roomRule, writeOf, writePatchOf, writeSurfaceOf}
 use Rattle.records.specs.declared.Patched.{Patched}
 use Rattle.records.specs.declared.Patched.the-variants as P
 use Rattle.records.specs.declared.Patch.{Patch}

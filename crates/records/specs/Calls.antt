@@ -5,7 +5,7 @@
 --   readPatchOf b        the shots of a patch record, 0 in the places past them; or 5 6 1 5 2 3 4, and 0 everywhere
 --   framedOf n b         what the frame and the triples of a surface record say by themselves, for n shots: its list, or 5 6 7 5 7
 --   readSurfaceOf l b    the words of a surface record's list; or 1-4, 5 6 7 5 7 10 8 9
---   Writing              a writer's answer, the number of bytes written, and the whole buffer; `leftIn`: of what the code leaves; `bufferWith`: the buffer that goes with an answer
+--   Writing              a writer's answer, the number of bytes written, and the whole buffer; `leftIn`: of what the code leaves
 --   roomRule s t         11: the buffer t is shorter than the bytes s
 --   writeOf rs s t       the bytes s written to the front of the buffer t; or a rule of rs, or 11 where t is shorter
 --   writePatchOf l t     the record of a patch; or 1-4, 11
@@ -18,7 +18,7 @@ use lib.Dec.{ltb}
 use lib.ListN.{getD, length, replicate}
 use lib.IntN.{ℤ, pos}
 use Rattle.algebra.specs.Answer.{Answer, gives, refuses, Rule, chain}
-use Rattle.algebra.specs.Writing.{wrote}
+use Rattle.algebra.specs.Writing.{wrote, bufferWith}
 use Rattle.shots.specs.Patch.{countOf}
 use Rattle.shots.specs.Tests.{shotRules}
 use Rattle.lists.specs.Tests.{listRules}
@@ -76,11 +76,6 @@ pub record Writing : Type 0 where
 
 abbrev pub leftIn : List ℕ → Written → Writing
 leftIn t r = record { answer = readWritten r; buffer = t }
-
--- the buffer that goes with an answer: written where nothing refuses, as it was where something does
-abbrev pub bufferWith : Answer ℕ → List ℕ → List ℕ → List ℕ
-bufferWith (gives k) s t = wrote t 0 s
-bufferWith (refuses n) s t = t
 
 -- 11: the buffer is shorter than the record
 abbrev pub roomRule : List ℕ → List ℕ → Rule

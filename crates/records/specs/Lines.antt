@@ -4,7 +4,6 @@
 --   patchFrameLines b, readPatchLines b           5 6 1 5, and 2 3 4 of the coordinates read
 --   OutOfForm n b       a triple with a number that is not a shot, or not increasing, or that does not come after the one before it
 --   surfaceFrameLines n b, readSurfaceLines l b   1-4, 5 6 7 5 7, and 7 10 8 9 of the list read
---   NoRoom s t          the buffer t is shorter than the record s
 --   writePatchLines l t, writeSurfaceLines l w t
 --
 -- The theorems: proofs/Promises. Source: document 01, "Records", "Refusal numbers".
@@ -16,6 +15,7 @@ use lib.ListN.{getD, length}
 use lib.IntN.{ℤ}
 use Rattle.algebra.specs.Answer.{Line}
 use Rattle.algebra.specs.Sets.{Within, Lex}
+use Rattle.algebra.specs.Writing.{NoRoom}
 use Rattle.shots.specs.Sizes.{shotsLeast, shotsMost}
 use Rattle.shots.specs.Patch.{countOf}
 use Rattle.shots.specs.Lines.{shotLines, placeLines}
@@ -63,9 +63,6 @@ readSurfaceLines l b =
     shotLines l ++ (surfaceFrameLines (countOf l) b ++ record { number = 7; when = OutOfForm (countOf l) b } ∷ listLines l (listedOf (countOf l) b))
 
 -- ---- writers
-
-abbrev pub NoRoom : List ℕ → List ℕ → Type 0
-NoRoom s t = length t < length s
 
 abbrev pub writePatchLines : List ℤ → List ℕ → List Line
 writePatchLines l t = shotLines l ++ record { number = 11; when = NoRoom (patchBytes l) t } ∷ []

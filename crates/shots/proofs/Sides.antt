@@ -7,7 +7,7 @@ use mathlib.Core.Path.{_≡_, refl, sym, _∙_, ap, subst}
 use mathlib.Core.Logic.{_↔_}
 use mathlib.Core.Bool.{Bool, true, false, cond}
 use mathlib.Core.List.{List, [], _∷_, List·Memᴰ, List·Memᴰ·head, List·Memᴰ·not-nil, List·Memᴰ·eq-of-singleton}
-use Prim.Native.Nat.{ℕ, _+_, _≤_, _<_}
+use Prim.Native.Nat.{ℕ, _+_, _<_}
 use native.Mathlib.Omega.{arith}
 use lib.ListN.{length, getD}
 use lib.IntN.{ℤ}
@@ -15,7 +15,7 @@ use Rattle.algebra.specs.Answer.{Reflects, gives, Clear}
 use Rattle.algebra.specs.Loops.{tally, over}
 use Rattle.algebra.specs.Sign.{nought}
 use Rattle.algebra.proofs.AnswerLaws.{reflects-iff, reflects-yes, reflects-true, reflects-stable, reflects-not, reflects-and, reflects-eqb, is-nought}
-use Rattle.algebra.proofs.ListLaws.{Apart, Other, apart-at, places-apart, apart-fewer, kept, kept-in, kept-out, kept-apart}
+use Rattle.algebra.proofs.ListLaws.{Apart, Other, exactly-apart, exactly-length, kept, kept-in, kept-out, kept-apart}
 use Rattle.algebra.proofs.LoopLaws.{reflects-any, reflects-test}
 use Rattle.algebra.proofs.OverLaws.{over-in, over-out, over-apart, over-sized}
 use Rattle.algebra.proofs.SignLaws.{signOf-zero, zero-signOf}
@@ -120,29 +120,17 @@ module _ (l : List ℤ) where
 
   all-pairs : refusalOf l ≡ 0 → SidePairs l pairs
   unfolding pairs with one
-  all-pairs a = record {
-    each = λ e. (
-      λ m. let (j, _, jn, k) = over-out with 0 n m in
-          let (i, q, h, t) = with-out j k in
-          (i, j, q, h, jn, side-says i j a jn .0 t),
-      λ (i, j, q, h, jn, s). subst (λ (x : List ℕ). List·Memᴰ x pairs) (sym q)
-          (over-in with 0 n j (omega arith) jn (over-in (one j) 0 j i (omega arith) h
-          (kept-in (λ _. sidePairOf l i j) (i ∷ j ∷ []) ((i ∷ j ∷ []) ∷ []) (List·Memᴰ·head refl) (side-says i j a jn .1 s)))),
-    );
-    once = λ p q h k. apart-at Other pairs [] p q pairs-apart h k;
-  }
-
-  -- two such lists are of one length
-  not-longer : (ps qs : List (List ℕ)) → SidePairs l ps → SidePairs l qs → length ps ≤ length qs
-  not-longer ps qs a b = apart-fewer ps qs (places-apart [] ps (a .once)) (λ e m. b .each e .1 (a .each e .0 m))
+  all-pairs a = exactly-apart pairs (λ e. (
+    λ m. let (j, _, jn, k) = over-out with 0 n m in
+        let (i, q, h, t) = with-out j k in
+        (i, j, q, h, jn, side-says i j a jn .0 t),
+    λ (i, j, q, h, jn, s). subst (λ (x : List ℕ). List·Memᴰ x pairs) (sym q)
+        (over-in with 0 n j (omega arith) jn (over-in (one j) 0 j i (omega arith) h
+        (kept-in (λ _. sidePairOf l i j) (i ∷ j ∷ []) ((i ∷ j ∷ []) ∷ []) (List·Memᴰ·head refl) (side-says i j a jn .1 s)))),
+  )) pairs-apart
 
   pub border-counts-sides : (v : ℕ) → (borderCallOf l ≡ gives v) ↔ (Clear (shotLines l) × ((ps : List (List ℕ)) × SidePairs l ps × (length ps ≡ v)))
   border-counts-sides v = (
     λ e. let (c, q) = border-gives l v .0 e in (c, (pairs, all-pairs (shots-kept l .0 c), pairs-count ∙ q)),
-    λ (c, (ps, a, q)).
-        let b = all-pairs (shots-kept l .0 c) in
-        border-gives l v .1 (c, sym pairs-count ∙ same pairs ps (not-longer pairs ps b a) (not-longer ps pairs a b) ∙ q),
+    λ (c, (ps, a, q)). border-gives l v .1 (c, sym pairs-count ∙ exactly-length (all-pairs (shots-kept l .0 c)) a ∙ q),
   )
-    where
-      same : (ps qs : List (List ℕ)) → length ps ≤ length qs → length qs ≤ length ps → length ps ≡ length qs
-      same ps qs h k = omega arith

@@ -12,12 +12,13 @@
 --
 -- The theorems that each call gives each number exactly when its line is the first that holds: proofs/Promises; that `border` counts the sides: proofs/Sides.
 use mathlib.Core.Path.{_≡_}
-use mathlib.Core.Logic.{_⊎_, _↔_}
-use mathlib.Core.List.{List, [], _∷_, _++_, List·Memᴰ}
+use mathlib.Core.Logic.{_⊎_}
+use mathlib.Core.List.{List, [], _∷_, _++_}
 use Prim.Native.Nat.{ℕ, _%_, _≤_, _<_}
 use lib.ListN.{getD, length}
 use lib.IntN.{ℤ, pos, natAbs}
 use Rattle.algebra.specs.Answer.{Line}
+use Rattle.algebra.specs.Sets.{Exactly}
 use Rattle.matroid.specs.Points.{Collinear}
 use Rattle.matroid.specs.Borders.{Side}
 use Rattle.shots.specs.Sizes.{shotsLeast, shotsMost, farthest}
@@ -58,6 +59,5 @@ orientationLines l a b c = shotLines l ++ record { number = 7; when = NotShot l 
 abbrev pub cocircuitLines : List ℤ → ℕ → ℕ → List Line
 cocircuitLines l i j = shotLines l ++ record { number = 7; when = NotPair l i j } ∷ []
 
-pub record SidePairs (l : List ℤ) (ps : List (List ℕ)) : Type 0 where
-  pub each : (e : List ℕ) → List·Memᴰ e ps ↔ ((i : ℕ) × (j : ℕ) × (e ≡ i ∷ j ∷ []) × (i < j) × (j < countOf l) × Side (countOf l) (pointOf l) i j)
-  pub once : (p q : ℕ) → p < q → q < length ps → getD ps p [] ≡ getD ps q [] → ⊥
+abbrev pub SidePairs : List ℤ → List (List ℕ) → Type 0
+SidePairs l = Exactly [] (λ (e : List ℕ). (i : ℕ) × (j : ℕ) × (e ≡ i ∷ j ∷ []) × (i < j) × (j < countOf l) × Side (countOf l) (pointOf l) i j)

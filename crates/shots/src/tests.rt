@@ -52,7 +52,7 @@ fn some_far(shots: &[i32]) -> bool
 }
 
 // Whether the coordinates at two places of the run are the same.
-fn same(shots: &[i32], i: usize, j: usize) -> bool
+pub fn same(shots: &[i32], i: usize, j: usize) -> bool
     requires { ⌜ (i < length (now shots)) × (j < length (now shots)) ⌝ }
     ensures { λ r. ⌜ r ≡ eqZ (getD (now (shots .entry)) i (pos 0)) (getD (now (shots .entry)) j (pos 0)) ⌝ }
 {

@@ -29,7 +29,7 @@ loop-again c =
 returns : tie.Need-returns Inv-loop μ-loop
 returns c =
     let l = c .before in
-    (refl, sym (wrote-end (l .loop .out) (l .before .args .text .now) (l .before .args .at) (l .loop .i) (omega arith)) ∙ l .loop .inv .2)
+    (refl, sym (wrote-end (l .loop .out) (l .before .args .text .now) _ (l .loop .i) (omega arith)) ∙ l .loop .inv .2)
 
 pub bytes-spec : {M : Type 1} → statement M
 bytes-spec =

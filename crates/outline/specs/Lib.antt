@@ -1,0 +1,3 @@
+pub mod Wrapping
+pub mod Calls
+pub mod Lines

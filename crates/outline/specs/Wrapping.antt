@@ -1,0 +1,53 @@
+-- The two chains of a patch, as they are found: from the first shot on, each time the shot that no other one ahead is outside of, as a string is wrapped around posts.
+-- b is true for the north chain and false for the south chain.
+--
+--   beforeOf l i j        shot i is left of shot j, or below it on an upright line
+--   firstOf l             the leftmost shot, the lowest of equals
+--   outsideOf b f s       what has the sign s is outside of two neighbours: on the right of the south chain, on the left of the north chain; on their line where f says that it is farther
+--   passesOf l b p q k    shot k comes behind p rather than q: it is ahead of p, and outside of p and q
+--   nextOf l b p          the shot behind p: none ahead passes it; p itself where none is ahead
+--   chainFrom l b m p     p, and the shots behind it up to the last one, m in all at most
+--   chainOf l b           the chain from the first shot on
+--   southOf l, northOf l  the two chains
+--
+-- What they are of an accepted patch, over the published definitions: proofs/Promises. Source: document 02, E5.
+use mathlib.Core.Bool.{Bool, true, false, not, cond, _&&_}
+use mathlib.Core.List.{List, [], _∷_}
+use Prim.Native.Nat.{ℕ, zero, suc}
+use lib.Dec.{eqb}
+use lib.IntN.{ℤ}
+use lib.Signed.{ltZ}
+use Rattle.algebra.specs.Loops.{fold}
+use Rattle.algebra.specs.Sign.{Sign, minus, nought, plus, eqZ}
+use Rattle.shots.specs.Coordinates.{xOf, yOf}
+use Rattle.shots.specs.Patch.{countOf, orientOf}
+
+unfoldable pub beforeOf : List ℤ → ℕ → ℕ → Bool
+beforeOf l i j = cond (eqZ (xOf l i) (xOf l j)) (ltZ (yOf l i) (yOf l j)) (ltZ (xOf l i) (xOf l j))
+
+unfoldable pub firstOf : List ℤ → ℕ
+firstOf l = fold (λ k q. cond (beforeOf l k q) k q) 0 (countOf l)
+
+abbrev pub outsideOf : Bool → Bool → Sign → Bool
+outsideOf b f minus = not b
+outsideOf b f nought = f
+outsideOf b f plus = b
+
+unfoldable pub passesOf : List ℤ → Bool → ℕ → ℕ → ℕ → Bool
+passesOf l b p q k = beforeOf l p k && outsideOf b (beforeOf l q k) (orientOf l p q k)
+
+unfoldable pub nextOf : List ℤ → Bool → ℕ → ℕ
+nextOf l b p = fold (λ k q. cond (passesOf l b p q k) k q) p (countOf l)
+
+unfoldable pub chainFrom : List ℤ → Bool → ℕ → ℕ → List ℕ
+chainFrom l b zero p = []
+chainFrom l b (suc m) p = p ∷ cond (eqb (nextOf l b p) p) [] (chainFrom l b m (nextOf l b p))
+
+unfoldable pub chainOf : List ℤ → Bool → List ℕ
+chainOf l b = chainFrom l b (countOf l) (firstOf l)
+
+abbrev pub southOf : List ℤ → List ℕ
+southOf l = chainOf l false
+
+abbrev pub northOf : List ℤ → List ℕ
+northOf l = chainOf l true
