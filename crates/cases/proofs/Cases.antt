@@ -5,11 +5,14 @@ use Rattle.algebra.specs.Answer.{chain, refusal}
 use Rattle.algebra.specs.Loops.{any, anyOf, first, fold, picks, tally, tabulate, run, over}
 use Rattle.algebra.specs.Sign.{signOf, opposite, value}
 use Rattle.algebra.specs.Sets.{isOn, allOn, sameList, union, dropped, maskOf, bit, nest, placeOf}
+use Rattle.algebra.specs.Writing.{wrote}
 use Rattle.algebra.specs.Words.{setBit, member, putIn, sift, rowOf, setRow}
 use Rattle.shots.specs.Coordinates.{xOf, yOf, areaOf}
 use Rattle.shots.specs.Patch.{orientOf, betweenOf, someLeft, someRight, borderOf, outsideAt, someOutside, sidePairOf}
 use Rattle.shots.specs.Tests.{badCount, farAt, someFar, sameAt, sameBefore, someSame, bentAt, bentOf, bentBefore, someBent}
 use Rattle.shots.specs.Calls.{orientationOf, signAt, cocircuitOf, sidesOf, borderCallOf}
+use Rattle.outline.specs.Wrapping.{beforeOf, firstOf, passesOf, nextOf, chainFrom, chainOf}
+use Rattle.outline.specs.Calls.{roomOf, chainsOf}
 use Rattle.circuits.specs.Sides.{side, split}
 use Rattle.circuits.specs.Numbering.{oneIf, three, threesWith, threesFrom, threes, four, foursUpon, foursWith, foursFrom, fours, circuitsOf}
 use Rattle.circuits.specs.Calls.{countCallOf, circuitCallOf}
@@ -25,5 +28,5 @@ use Rattle.reach.specs.Walks.{seenIn, impossible, storeOf, tryOf, stepOf, steps
 use Rattle.cases.specs.Table.{Case, replyTo, table}
 
 pub cases-right : map (λ (c : Case). replyTo (c .patch) (c .asked)) table ≡ map (λ (c : Case). c .stated) table
-unfolding chain any tally tabulate run over signOf opposite value xOf yOf areaOf orientOf betweenOf badCount farAt someFar sameAt sameBefore someSame bentAt bentOf bentBefore someBent orientationOf signAt cocircuitOf sidesOf borderCallOf side split maskOf oneIf three threesWith threesFrom threes four foursUpon foursWith foursFrom fours circuitsOf countCallOf circuitCallOf refusal anyOf first fold picks isOn allOn sameList union dropped bit nest placeOf setBit member putIn sift someLeft someRight borderOf outsideAt someOutside sidePairOf tripleCount tripleAt rankOf isFlat pastLast someFlat isEmpty sidesIn crosses crossing shared openAt openEdge listRefusalOf testOf tripleAreaOf areaSumOf listed supportOf piecesOf completes someLink mixedLinks supports joins exchanged flippedOf firstOff beginOf thirdIn loneThird visible withEdge withEdges placeShot placeNext placedOf placingOf flipOf rowOf setRow seenIn impossible storeOf tryOf stepOf stepsOf runOf startOf
+unfolding chain any tally tabulate run over signOf opposite value xOf yOf areaOf orientOf betweenOf badCount farAt someFar sameAt sameBefore someSame bentAt bentOf bentBefore someBent orientationOf signAt cocircuitOf sidesOf borderCallOf side split maskOf oneIf three threesWith threesFrom threes four foursUpon foursWith foursFrom fours circuitsOf countCallOf circuitCallOf refusal anyOf first fold picks isOn allOn sameList union dropped bit nest placeOf setBit member putIn sift someLeft someRight borderOf outsideAt someOutside sidePairOf tripleCount tripleAt rankOf isFlat pastLast someFlat isEmpty sidesIn crosses crossing shared openAt openEdge listRefusalOf testOf tripleAreaOf areaSumOf listed supportOf piecesOf completes someLink mixedLinks supports joins exchanged flippedOf firstOff beginOf thirdIn loneThird visible withEdge withEdges placeShot placeNext placedOf placingOf flipOf rowOf setRow seenIn impossible storeOf tryOf stepOf stepsOf runOf startOf wrote beforeOf firstOf passesOf nextOf chainFrom chainOf roomOf chainsOf
 cases-right = refl

@@ -1,4 +1,4 @@
--- The proved cases of document 01, "The square with its centre", with its orientations as the numbers that document 02, E6, asks for, and E1's patch, as one table: a patch, what is asked of it,
+-- The proved cases of document 01, "The square with its centre", with its orientations as the numbers that document 02, E6, asks for, E1's patch, and outlines as E5 asks for them, as one table: a patch, what is asked of it,
 -- and the answer; of document 01's run cases those of the walk.
 --
 --   Question      a call and its numbers; or the double areas of a list, summed
@@ -20,6 +20,8 @@ use Rattle.algebra.specs.Answer.{Answer, gives, refuses}
 use Rattle.algebra.specs.Words.{putIn}
 use Rattle.reach.specs.Walks.{Reply, made, done, Landing, runOf, startOf}
 use Rattle.shots.specs.Calls.{Cocircuit, orientationOf, cocircuitOf, borderCallOf}
+use Rattle.outline.specs.declared.Lengths.{Lengths}
+use Rattle.outline.specs.Calls.{Outlining, chainsOf}
 use Rattle.circuits.specs.declared.Sides.{Sides}
 use Rattle.circuits.specs.Sides.{masks}
 use Rattle.circuits.specs.Calls.{countCallOf, circuitCallOf}
@@ -34,6 +36,7 @@ pub data Question : Type 0 where
   orientation : ℕ → ℕ → ℕ → Question
   cocircuit : ℕ → ℕ → Question
   border : Question
+  chains : List ℕ → List ℕ → Question
   circuits : Question
   circuit : ℕ → Question
   test : List ℕ → Question
@@ -46,6 +49,7 @@ pub data Told : Type 0 where
   area : Answer ℤ → Told
   signs : Cocircuit → Told
   count : Answer ℕ → Told
+  outlined : Outlining → Told
   sides : Answer Sides → Told
   tested : Answer (Unit {0}) → Told
   sum : ℕ → Told
@@ -59,6 +63,7 @@ abbrev pub replyTo : List ℤ → Question → Told
 replyTo l (orientation a b c) = area (orientationOf l a b c)
 replyTo l (cocircuit i j) = signs (cocircuitOf l i j)
 replyTo l border = count (borderCallOf l)
+replyTo l (chains s t) = outlined (chainsOf l s t)
 replyTo l circuits = count (countCallOf l)
 replyTo l (circuit z) = sides (circuitCallOf l z)
 replyTo l (test w) = tested (testOf l w)
@@ -123,13 +128,17 @@ around = triples (tri 0 1 4 ∷ tri 0 3 4 ∷ tri 1 2 4 ∷ tri 2 3 4 ∷ [])
 abbrev only : List ℕ
 only = 1 ∷ 0 ∷ []
 
--- a table of n words that were used for something else
+-- a table of n words, a buffer of n bytes, that were used for something else
 abbrev used : ℕ → List ℕ
 used n = replicate n 7
 
 -- a walk's answer, its rows, its step number and the whole table
 abbrev left : Answer Reply → ℕ → ℕ → List ℕ → Told
 left a n s t = walked (record { answer = a; walk = record { rows = n; step = s }; table = t })
+
+-- the two lengths, and both buffers
+abbrev along : Answer Lengths → List ℕ → List ℕ → Told
+along a s t = outlined (record { answer = a; south = s; north = t })
 
 abbrev of-square : Question → Told → Case
 of-square q r = record { patch = square; asked = q; stated = r }
@@ -142,6 +151,10 @@ table =
     ∷ of-square (cocircuit 0 2) (five (pos 0) (negsuc 0) (pos 0) (pos 1) (pos 0))
     ∷ of-square border (count (gives 4))
     ∷ record { patch = fence; asked = border; stated = count (gives 4) }
+    ∷ of-square (chains (used 4) (used 3)) (along (gives (record { south = 3; north = 3 })) (0 ∷ 1 ∷ 2 ∷ 7 ∷ []) (0 ∷ 3 ∷ 2 ∷ []))
+    ∷ of-square (chains (used 3) (used 2)) (along (refuses 11) (used 3) (used 2))
+    ∷ record { patch = fence; asked = chains (used 3) (used 3); stated = along (gives (record { south = 3; north = 3 })) (0 ∷ 1 ∷ 2 ∷ []) (0 ∷ 3 ∷ 2 ∷ []) }
+    ∷ record { patch = triangle; asked = chains (used 3) (used 3); stated = along (gives (record { south = 2; north = 3 })) (0 ∷ 1 ∷ 7 ∷ []) (0 ∷ 2 ∷ 1 ∷ []) }
     ∷ of-square circuits (count (gives 3))
     ∷ of-square (circuit 0) (_against_ (0 ∷ 2 ∷ []) (4 ∷ []))
     ∷ of-square (circuit 1) (_against_ (1 ∷ 3 ∷ []) (4 ∷ []))

@@ -3,27 +3,41 @@
 --   outlined-stops    the run of shots is refused
 --   outlined-short    a buffer is too short
 --   outlined-done     both chains are written
+--   room-both, room-south, room-north    the tests of the two buffers
 --   chain-taken       the filled part of the array that holds a chain is the chain
-use mathlib.Core.Path.{_≡_, refl, _∙_}
-use mathlib.Core.Logic.{_⊎_, inl, inr}
-use mathlib.Core.Bool.{Bool}
+use mathlib.Core.Path.{_≡_, refl, sym, _∙_, ap}
+use mathlib.Core.Bool.{Bool, true, false, not, cond, _&&_, and-false}
 use mathlib.Core.List.{List, [], _∷_}
-use Prim.Native.Nat.{ℕ, _≤_}
+use Prim.Native.Nat.{ℕ, _≤_, _<_}
 use native.Mathlib.Omega.{arith}
+use borrow.Author.Tests.{le-leb, lt-leb}
+use lib.Dec.{leb}
 use lib.IntN.{ℤ}
 use lib.ListN.{length, take, replicate}
-use Rattle.algebra.specs.Answer.{Answer, gives, refuses, Reflects}
-use Rattle.algebra.specs.Writing.{wrote, bufferWith, NoRoom}
-use Rattle.algebra.proofs.AnswerLaws.{reflects-or, reflects-ltb, reflects-true, reflects-false}
+use Rattle.algebra.specs.Answer.{Answer, gives, refuses}
+use Rattle.algebra.specs.Writing.{wrote, bufferWith}
 use Rattle.algebra.proofs.WritingLaws.{wrote-taken}
 use Rattle.shots.specs.Sizes.{shotsMost}
 use Rattle.shots.specs.Patch.{countOf}
 use Rattle.shots.specs.Tests.{refusalOf}
 use Rattle.shots.proofs.Chains.{shots-refused, rule-broken, rule-kept}
 use Rattle.outline.specs.Wrapping.{firstOf, chainOf, southOf, northOf}
-use Rattle.outline.specs.Calls.{Outlining, roomsRule, lengthsOf, outlinedOf, chainsOf}
+use Rattle.outline.specs.Calls.{Outlining, roomOf, roomsRule, lengthsOf, outlinedOf, chainsOf}
 use Rattle.outline.specs.declared.Lengths.{Lengths}
 use Rattle.outline.proofs.ChainSteps.{chain-short}
+
+module _ (c d s t : List ℕ) where
+  pub room-both : length c ≤ length s → length d ≤ length t → true ≡ roomOf c d s t
+  unfolding roomOf
+  room-both h k = sym (λ i. le-leb (length c) (length s) h i && le-leb (length d) (length t) k i)
+
+  pub room-south : length s < length c → false ≡ roomOf c d s t
+  unfolding roomOf
+  room-south h = sym (ap (λ (b : Bool). b && leb (length d) (length t)) (lt-leb (length c) (length s) h))
+
+  pub room-north : length t < length d → false ≡ roomOf c d s t
+  unfolding roomOf
+  room-north h = sym (ap (λ (b : Bool). leb (length c) (length s) && b) (lt-leb (length d) (length t) h) ∙ and-false (leb (length c) (length s)))
 
 pub chain-taken : (l : List ℤ) (north : Bool) → countOf l ≤ shotsMost → {at : List ℕ} {count : ℕ} → (at ≡ wrote (replicate shotsMost 0) 0 (chainOf l north)) × (count ≡ length (chainOf l north)) → take count at ≡ chainOf l north
 unfolding chainOf
@@ -38,17 +52,15 @@ module _ (l : List ℤ) (s t : List ℕ) where
   pub outlined-stops : {n : ℕ} → n ≡ refusalOf l → (n ≡ 0 → ⊥) → _≡_ {A = Outlining} (record { answer = refuses n; south = s; north = t }) (chainsOf l s t)
   outlined-stops e ne = left (shots-refused l (roomsRule l s t ∷ []) (lengthsOf l) e ne)
 
-  module _ {n : ℕ} (e : n ≡ refusalOf l) (z : n ≡ 0) where
-    short : Reflects (NoRoom (southOf l) s ⊎ NoRoom (northOf l) t) (roomsRule l s t .broken)
-    short = reflects-or (reflects-ltb (length s) (length (southOf l))) (reflects-ltb (length t) (length (northOf l)))
+  -- the buffers were filled, or one of them has no room
+  module _ {n : ℕ} (e : n ≡ refusalOf l) (z : n ≡ 0) {r : Bool} (p : r ≡ roomOf (southOf l) (northOf l) s t) {u v : List ℕ}
+      (q : (u ≡ cond r (wrote s 0 (southOf l)) s) × (v ≡ cond r (wrote t 0 (northOf l)) t)) where
+    pub outlined-done : r ≡ true → {k : Lengths} → k ≡ lengthsOf l → record { answer = gives k; south = u; north = v } ≡ chainsOf l s t
+    outlined-done h i =
+        (λ j. record { answer = gives (i j); south = (q .0 ∙ ap (λ (b : Bool). cond b (wrote s 0 (southOf l)) s) h) j; north = (q .1 ∙ ap (λ (b : Bool). cond b (wrote t 0 (northOf l)) t) h) j })
+        ∙ left (rule-kept l (roomsRule l s t) (lengthsOf l) e z refl (ap not (sym p ∙ h)) refl)
 
-    pub outlined-short : NoRoom (southOf l) s ⊎ NoRoom (northOf l) t → _≡_ {A = Outlining} (record { answer = refuses 11; south = s; north = t }) (chainsOf l s t)
-    outlined-short h = left (rule-broken l (roomsRule l s t) (lengthsOf l) e z refl (reflects-true short h))
-
-    pub outlined-done : length (southOf l) ≤ length s → length (northOf l) ≤ length t → {k : Lengths} {u v : List ℕ} → k ≡ lengthsOf l → u ≡ wrote s 0 (southOf l) → v ≡ wrote t 0 (northOf l)
-        → record { answer = gives k; south = u; north = v } ≡ chainsOf l s t
-    outlined-done h i p q r = (λ k. record { answer = gives (p k); south = q k; north = r k }) ∙ left (rule-kept l (roomsRule l s t) (lengthsOf l) e z refl (reflects-false short none) refl)
-      where
-        none : NoRoom (southOf l) s ⊎ NoRoom (northOf l) t → ⊥
-        none (inl x) = omega arith
-        none (inr x) = omega arith
+    pub outlined-short : r ≡ false → _≡_ {A = Outlining} (record { answer = refuses 11; south = u; north = v }) (chainsOf l s t)
+    outlined-short h =
+        (λ j. record { answer = refuses 11; south = (q .0 ∙ ap (λ (b : Bool). cond b (wrote s 0 (southOf l)) s) h) j; north = (q .1 ∙ ap (λ (b : Bool). cond b (wrote t 0 (northOf l)) t) h) j })
+        ∙ left (rule-broken l (roomsRule l s t) (lengthsOf l) e z refl (ap not (sym p ∙ h)))

@@ -10,22 +10,23 @@
 use mathlib.Core.Path.{_≡_, refl, sym, _∙_, ap}
 use mathlib.Core.Logic.{_⊎_, inl, inr, ⊎-elim, _↔_}
 use mathlib.Core.List.{List, [], _∷_, _++_}
-use mathlib.Core.Bool.{Bool, cond}
+use mathlib.Core.Bool.{Bool, not, cond}
 use Prim.Native.Nat.{ℕ, _≤_, _<_}
 use native.Mathlib.Omega.{arith}
+use native.Mathlib.Decide.{decLt}
 use borrow.Author.Tests.{le-leb, lt-leb}
 use lib.IntN.{ℤ}
 use lib.ListN.{length, take, drop, length-append}
 use lib.Seq.{take-at}
-use Rattle.algebra.specs.Answer.{Answer, gives, refuses, First, Clear, Decides}
+use Rattle.algebra.specs.Answer.{Answer, gives, refuses, First, Clear, Reflects, Decides}
 use Rattle.algebra.specs.Writing.{bufferWith, NoRoom}
-use Rattle.algebra.proofs.AnswerLaws.{chain-refuses, chain-gives, clear-append, decides-append, one-answer, reflects-or, reflects-ltb}
+use Rattle.algebra.proofs.AnswerLaws.{chain-refuses, chain-gives, clear-append, decides-append, one-answer, reflects-iff, reflects-not, reflects-and, reflects-leb}
 use Rattle.algebra.proofs.WritingLaws.{wrote-front}
 use Rattle.shots.specs.Tests.{shotRules}
 use Rattle.shots.specs.Lines.{shotLines}
 use Rattle.shots.proofs.Promises.{shots-decided}
 use Rattle.outline.specs.Wrapping.{southOf, northOf}
-use Rattle.outline.specs.Calls.{readOutlined, Outlining, leftIn, roomsRule, lengthsOf, outlinedOf, chainsOf, frontBytes, bufferFor, lengthFor, chainFor, partOf}
+use Rattle.outline.specs.Calls.{readOutlined, Outlining, leftIn, roomOf, roomsRule, lengthsOf, chainsOf, frontBytes, bufferFor, lengthFor, chainFor, partOf}
 use Rattle.outline.specs.Lines.{chainsLines}
 use Rattle.outline.specs.declared.Facing.{Facing}
 use Rattle.outline.specs.declared.Facing.the-variants as F
@@ -36,10 +37,25 @@ use Rattle.outline.specs.declared.Outlined.the-variants as O
 -- ---- chains
 
 module _ (l : List ℤ) (s t : List ℕ) where
+  rooms-decided : Reflects (NoRoom (southOf l) s ⊎ NoRoom (northOf l) t) (not (roomOf (southOf l) (northOf l) s t))
+  unfolding roomOf
+  rooms-decided = reflects-iff (some, none) (reflects-not (reflects-and (reflects-leb (length (southOf l)) (length s)) (reflects-leb (length (northOf l)) (length t))))
+    where
+      some : ((length (southOf l) ≤ length s) × (length (northOf l) ≤ length t) → ⊥) → NoRoom (southOf l) s ⊎ NoRoom (northOf l) t
+      some h = go (decLt (length s) (length (southOf l)))
+        where
+          go : Dec (NoRoom (southOf l) s) → NoRoom (southOf l) s ⊎ NoRoom (northOf l) t
+          go (yes k) = inl k
+          go (no k) = inr (let o : (length (northOf l) ≤ length t → ⊥) = λ i. h (omega (arith, k), i) in omega (arith, o))
+
+      none : NoRoom (southOf l) s ⊎ NoRoom (northOf l) t → (length (southOf l) ≤ length s) × (length (northOf l) ≤ length t) → ⊥
+      none (inl k) (p, q) = omega arith
+      none (inr k) (p, q) = omega arith
+
   chains-decided : Decides (shotRules l ++ roomsRule l s t ∷ []) (chainsLines l s t)
   chains-decided =
       decides-append (shotRules l) (roomsRule l s t ∷ []) (shotLines l) (record { number = 11; when = NoRoom (southOf l) s ⊎ NoRoom (northOf l) t } ∷ []) (shots-decided l)
-      (refl, reflects-or (reflects-ltb (length s) (length (southOf l))) (reflects-ltb (length t) (length (northOf l))), tt)
+      (refl, rooms-decided, tt)
 
   pub chains-refuses : (n : ℕ) → (chainsOf l s t .answer ≡ refuses n) ↔ First n (chainsLines l s t)
   unfolding chainsOf

@@ -2,6 +2,7 @@
 --
 --   readOutlined         the refusal number or the two lengths of each case of the answer
 --   Outlining            the answer of `chains`, and the two buffers, whole; `leftIn`: of what the code leaves
+--   roomOf c d s t       the buffer s has room for the chain c, and t for d
 --   roomsRule l s t      11: the buffer s is shorter than the south chain, or t than the north chain
 --   lengthsOf l          the lengths of the two chains
 --   chainsOf l s t       the two chains at the front of the buffers s and t, and their lengths; or 1-4, 11, and both buffers as they were
@@ -10,10 +11,10 @@
 --   partOf f s t k       the part of the buffer asked for that has its length of k; none where that exceeds it
 --
 -- Source: document 02, E5.
-use mathlib.Core.Bool.{cond, _||_}
+use mathlib.Core.Bool.{Bool, not, cond, _&&_}
 use mathlib.Core.List.{List, [], _∷_, _++_}
 use Prim.Native.Nat.{ℕ}
-use lib.Dec.{leb, ltb}
+use lib.Dec.{leb}
 use lib.ListN.{length, take}
 use lib.IntN.{ℤ}
 use Rattle.algebra.specs.Answer.{Answer, gives, refuses, Rule, chain}
@@ -38,8 +39,11 @@ pub record Outlining : Type 0 where
 abbrev pub leftIn : Outlined → List ℕ → List ℕ → Outlining
 leftIn r s t = record { answer = readOutlined r; south = s; north = t }
 
+unfoldable pub roomOf : List ℕ → List ℕ → List ℕ → List ℕ → Bool
+roomOf c d s t = leb (length c) (length s) && leb (length d) (length t)
+
 abbrev pub roomsRule : List ℤ → List ℕ → List ℕ → Rule
-roomsRule l s t = record { number = 11; broken = ltb (length s) (length (southOf l)) || ltb (length t) (length (northOf l)) }
+roomsRule l s t = record { number = 11; broken = not (roomOf (southOf l) (northOf l) s t) }
 
 abbrev pub lengthsOf : List ℤ → Lengths
 lengthsOf l = record { south = length (southOf l); north = length (northOf l) }

@@ -43,15 +43,15 @@ pub fn chains(shots: &[i32], south: &mut [u8], north: &mut [u8]) -> Outlined
         south: below.count,
         north: above.count,
     };
-    if south.len() < lengths.south {
-        return Outlined::Refused(11);
+    if buffers::fill(
+        south,
+        north,
+        &lower[..lengths.south],
+        &upper[..lengths.north],
+    ) {
+        return Outlined::Chains(lengths);
     }
-    if north.len() < lengths.north {
-        return Outlined::Refused(11);
-    }
-    buffers::put(south, &lower[..lengths.south]);
-    buffers::put(north, &upper[..lengths.north]);
-    Outlined::Chains(lengths)
+    Outlined::Refused(11)
 }
 
 // The part that `chains` filled, where `lengths` is what it answered; empty where the length exceeds its buffer.

@@ -30,6 +30,7 @@ use Rattle.reach.proofs.Runs.{run-done}
 use Rattle.shots.specs.Patch.{countOf}
 use Rattle.shots.specs.Calls.{sidesOf}
 use Rattle.shots.proofs.Promises.{shots-kept, border-gives}
+use Rattle.outline.proofs.Outline.{border-counts-chains}
 use Rattle.circuits.specs.Numbering.{circuitsOf}
 use Rattle.circuits.proofs.Promises.{count-gives}
 use Rattle.triples.specs.Sizes.{wordCount}
@@ -158,5 +159,6 @@ report-begins b n e =
       row-is = placed;
       circuits-is = count-gives l _ .1 (patch, refl);
       sides-is = border-gives l _ .1 (patch, refl);
+      sides-along = border-counts-chains l _ .0 (border-gives l _ .1 (patch, refl)) .1;
       area-is = area-sum-says l patch (placedOf l) _ .1 refl;
     }
