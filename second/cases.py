@@ -3,7 +3,8 @@
 
 usage: python3 second/cases.py SECOND > stream
 
-SECOND is the built second program. It is asked for the surfaces of a patch; no answer to a case stands here.
+SECOND is the built second program. It is asked for the surfaces of a patch and for the lengths of its chains; no answer
+to a case stands here.
 """
 
 import itertools
@@ -27,6 +28,8 @@ FENCE = [(0, 0), (2, 0), (2, 2), (0, 2), (1, 0)]
 MIDDLE_FIRST = [(1, 0), (0, 0), (2, 0), (0, 1), (2, 3)]
 LATE_START = [(0, 0), (4, 0), (2, 0), (6, 0), (1, 3), (-2, 0)]
 EXTREMES = [(-LIMIT, -LIMIT), (LIMIT, -LIMIT), (LIMIT, LIMIT), (-LIMIT, LIMIT), (0, 0), (1, 0), (LIMIT - 1, LIMIT)]
+DECAGON = [(0, 0), (1, -2), (3, -3), (5, -2), (6, 0), (6, 1), (5, 3), (3, 4), (1, 3), (0, 1)]
+PARABOLA = [(x, x * x) for x in range(-4, 6)]
 
 # A run of coordinates for each way in which shots are refused, and for several ways at once.
 BAD_SHOTS = [
@@ -103,13 +106,27 @@ def surface_record(n, surface):
     return list(struct.pack(">H", len(body))) + body
 
 
+def lent_bytes(length):
+    """A buffer that may hold anything."""
+    return [rng.randrange(256) for _ in range(length)]
+
+
+def second(program, given):
+    """What the second program prints."""
+    return subprocess.run([sys.argv[1], program], input=given, capture_output=True, check=True).stdout.decode()
+
+
 def walk(patch):
     """The number of circuits and the surfaces of a patch, in the order of the walk from its placing surface."""
-    record = bytes(patch_record(patch))
-    lines = subprocess.run([sys.argv[1], "patchwalk"], input=record, capture_output=True, check=True).stdout
-    first, *rows, _ = lines.decode().splitlines()
+    first, *rows, _ = second("patchwalk", bytes(patch_record(patch))).splitlines()
     surfaces = [[tuple(map(int, name)) for name in row.split()[3:]] for row in rows]
     return int(first.split()[3]), surfaces
+
+
+def chain_lengths(patch):
+    """The lengths of the south and of the north chain."""
+    answer = second("runcases", f"chains {written(patch)} [0*10] [0*10]".encode())
+    return [int(length) for length in answer.split()[2:4]]
 
 
 def table(n, surfaces):
@@ -133,6 +150,15 @@ def fenced_patch(n, corners):
     sides = list(zip(ends, ends[1:] + ends[:1]))
     posts = {(ax + (bx - ax) * t // 4, ay + (by - ay) * t // 4) for (ax, ay), (bx, by) in sides for t in [1, 2, 3]}
     return rng.sample(ends + rng.sample([*sorted(posts), (6, 1), (7, 1)], n - len(ends)), n)
+
+
+def shuffled(patch):
+    return rng.sample(patch, len(patch))
+
+
+def turned(patch, quarters):
+    """Turned to the left, so that each side stands south, east, north or west in its turn."""
+    return turned([(-y, x) for x, y in patch], quarters - 1) if quarters else patch
 
 
 # Groups of cases
@@ -248,7 +274,7 @@ def side_cases():
     remark("sides: a shot halfway, lines of many shots, in any order of their numbers")
     for patch in [FENCE, TRIANGLE, SQUARE, PENTAGON, GRID23, GRID25, GRID33, OUTLINE, MIDDLE_FIRST]:
         case("border", patch)
-        case("border", rng.sample(patch, len(patch)))
+        case("border", shuffled(patch))
     remark("sides: shots along the sides of a triangle or a quadrilateral, with some inside, upright, level and slanted")
     for n, corners in itertools.product(range(4, 11), [3, 4]):
         case("border", fenced_patch(n, corners))
@@ -331,7 +357,7 @@ def placing_cases():
     remark("placing: shots on the line of 0 and 1 come after the first triple; a shot that sees no edge is unused")
     for patch in [LATE_START, MIDDLE_FIRST, GRID23, GRID33, GRID25]:
         case("placing", patch)
-        case("placing", rng.sample(patch, len(patch)))
+        case("placing", shuffled(patch))
     for n, kind in itertools.product(range(5, 11), ["grid", "small"]):
         case("placing", random_patch(n, kind))
 
@@ -365,7 +391,7 @@ def random_patch_cases():
         case("orientation", patch, *rng.sample(range(n), 3))
         case("double_area", patch, *rng.sample(range(n), 3))
         case("circuit", patch, rng.randrange(2 * n))
-        case("write_patch", patch, [rng.randrange(256) for _ in range(4 + 8 * n)])
+        case("write_patch", patch, lent_bytes(4 + 8 * n))
         case("read_patch", patch_record(patch))
 
 
@@ -583,20 +609,19 @@ def buffer_cases():
     for patch in [TRIANGLE, SQUARE, [(x, x * x - LIMIT) for x in range(10)]]:
         size = 4 + 8 * len(patch)
         for length in [size, size - 1, size + 9, 3, 0]:
-            case("write_patch", patch, [rng.randrange(256) for _ in range(length)])
+            case("write_patch", patch, lent_bytes(length))
     for patch in [TRIANGLE, SQUARE, GRID33, GRID25]:
         surface = rng.choice(walk(patch)[1])
         size = 5 + 3 * len(surface)
         for length in [size, size - 1, size + 9, 4, 0]:
-            lent = [rng.randrange(256) for _ in range(length)]
-            case("write_surface", patch, *words(len(patch), surface), lent)
+            case("write_surface", patch, *words(len(patch), surface), lent_bytes(length))
 
 
 def result_cases():
     remark("results: placing in any order, with shots on the lines of edges that are there already")
     for patch in [SQUARE, GRID23, OUTLINE, GRID33]:
         for _ in range(6):
-            case("placing", rng.sample(patch, len(patch)))
+            case("placing", shuffled(patch))
     remark("results: flips along three on a line, with triangles on both sides of it or on one")
     for patch in [GRID23, LATE_START, OUTLINE]:
         n, surfaces = len(patch), walk(patch)[1]
@@ -625,12 +650,103 @@ def rank_cases():
             case("read_surface", patch, surface_record(n, surface))
 
 
+def chains_case(patch, south_room=3, north_room=2):
+    """The chains of a patch, into buffers with so many bytes more than they need."""
+    south, north = chain_lengths(patch)
+    case("chains", patch, lent_bytes(south + south_room), lent_bytes(north + north_room))
+
+
+def outline_cases():
+    remark("chains: patches in all four quarter turns")
+    patches = [TRIANGLE, SQUARE, PENTAGON, GRID23, GRID33, GRID25, OUTLINE, FENCE, MIDDLE_FIRST, LATE_START, EXTREMES]
+    for patch, quarters in itertools.product(patches, range(4)):
+        chains_case(turned(patch, quarters))
+    remark("chains: triangles in every order, with an upright, a level or no such side")
+    triangles = [turned([(0, 0), (0, 4), (3, 1)], quarters) for quarters in range(4)]
+    for triangle in [*triangles, [(0, 0), (2, -3), (5, 1)], [(0, 0), (2, 3), (5, 1)]]:
+        for order in itertools.permutations(triangle):
+            chains_case(order)
+    remark("chains: ten corners, on both chains or all on one")
+    for patch, quarters in itertools.product([DECAGON, PARABOLA], range(4)):
+        chains_case(turned(patch, quarters))
+        chains_case(shuffled(turned(patch, quarters)))
+    for south in range(9):
+        between = [(x, x * x - 81) for x in rng.sample(range(-8, 9), 8)]
+        chains_case(shuffled([(-9, 0), (9, 0), *between[:south], *turned(between[south:], 2)]))
+    remark("chains: one side only, south or north, with shots along it and away from it")
+    for n, half_turns in itertools.product(range(3, 11), range(2)):
+        away = [(x, x // 3 + rng.randint(1, 9)) for x in rng.sample(range(-8, 9), 6)]
+        near = rng.sample([(-6, -2), (-3, -1), (0, 0), (3, 1), (6, 2), *away[1:]], n - 3)
+        chains_case(turned(shuffled([(-9, -3), (9, 3), away[0], *near]), 2 * half_turns))
+    remark("chains: at the ends of the range, with shots along the sides, or close to one line")
+    far = [(x, y) for x in [-LIMIT, 0, LIMIT] for y in [-LIMIT, 0, LIMIT]]
+    corner, across = (-LIMIT, -LIMIT), (LIMIT, LIMIT)
+    close = [corner, across, (1, 1), (-1, -1)]
+    for patch in [far, [corner, across, (0, 1)], [*close, (0, 1)], [*close, (1, 0)], [*close, (0, 1), (1, 0), (0, 0)]]:
+        for quarters in range(4):
+            chains_case(shuffled(turned(patch, quarters)))
+    chains_case([corner, (LIMIT, LIMIT - 1), (0, 0), (1, 1), (0, -1)])
+    chains_case([corner, (LIMIT - 1, LIMIT), (0, 0), (-1, -1), (-1, 0)])
+
+
+def random_outline_cases():
+    remark("chains: shots along the sides of a triangle or a quadrilateral, upright, level and slanted")
+    for n, corners in itertools.product(range(4, 11), [3, 4]):
+        chains_case(turned(fenced_patch(n, corners), n % 4))
+    for quarters in range(4):
+        chains_case(turned(fenced_patch(10, 4), quarters))
+        chains_case(shuffled(turned([(0, y) for y in range(4)] + [(6, y) for y in range(-3, 3)], quarters)))
+    remark("chains: all shots but one on a line")
+    for (x, y), n in itertools.product([(0, 1), (1, 0), (2, 3), (3, -2)], [4, 10]):
+        line = [(x * place, y * place) for place in rng.sample(range(-20, 21), n - 1)]
+        for apart in [(1, 1), (-1, -1)]:
+            chains_case(shuffled([*line, apart]))
+    remark("chains: random patches")
+    for n, kind in itertools.product(range(3, 11), ["grid", "small", "wide"]):
+        for _ in range(2):
+            chains_case(random_patch(n, kind), rng.randrange(4), rng.randrange(4))
+
+
+def outline_buffer_cases():
+    remark("chains: buffers one byte short, exactly long enough, longer, empty, and of hundreds of bytes")
+    for patch in [TRIANGLE, FENCE, GRID33, shuffled(DECAGON), PARABOLA, turned(PARABOLA, 2)]:
+        for rooms in itertools.product([-1, 0, 1], repeat=2):
+            chains_case(patch, *rooms)
+        for lengths in [(0, 0), (0, 10), (10, 0), (1, 10), (10, 1)]:
+            case("chains", patch, *map(lent_bytes, lengths))
+    for patch, lengths in zip([SQUARE, GRID25, DECAGON], [(256, 257), (512, 300), (258, 256)]):
+        case("chains", patch, *map(lent_bytes, lengths))
+    case("chains", SQUARE, lent_bytes(300), lent_bytes(2))
+    case("chains", SQUARE, lent_bytes(2), lent_bytes(300))
+    remark("chains: shots are refused before a short buffer")
+    for shots in [*BAD_SHOTS, [], [(x, x * x) for x in range(11)]]:
+        for lengths in [(12, 11), (0, 0), (12, 0), (0, 11)]:
+            case("chains", shots, *map(lent_bytes, lengths))
+
+
+def part_cases():
+    remark("parts: nothing, some, all of a buffer, one byte more, far more; the other length as well")
+    numbers = [(0, 0), (1, 3), (5, 3), (6, 4), (7, 4), (6, 5), (7, 5), (4, 6), (7, 0), (0, 5), (U64, 4), (6, U64)]
+    numbers += [(U64, U64), (2**63, 2**63), (2**32, 2**32), (2**32 + 3, 2**32 + 3), (259, 258), (0, U64), (U64, 0)]
+    for south, north in [(lent_bytes(6), lent_bytes(4)), (lent_bytes(4), lent_bytes(6))]:
+        for lengths in numbers:
+            case("south_part", south, north, *lengths)
+            case("north_part", south, north, *lengths)
+    remark("parts: empty buffers, buffers of one byte, and of hundreds")
+    for sizes in [(0, 0), (0, 3), (3, 0), (1, 1), (258, 256)]:
+        south, north = map(lent_bytes, sizes)
+        for lengths in sorted({(0, 0), (1, 1), (3, 3), sizes, sizes[::-1], (256, 256), (259, 257), (U64, U64)}):
+            case("south_part", south, north, *lengths)
+            case("north_part", south, north, *lengths)
+
+
 def main():
     for group in [
         document_cases, run_cases, shot_cases, extreme_cases, circuit_cases, list_cases, changed_surface_cases,
         folded_cases, placing_cases, flip_cases, random_patch_cases, refused_shot_cases, refused_list_cases,
         start_cases, walk_record_cases, table_cases, random_table_cases, run_length_cases, capacity_cases,
         patch_record_cases, surface_record_cases, buffer_cases, result_cases, side_cases, orientation_cases, rank_cases,
+        outline_cases, random_outline_cases, outline_buffer_cases, part_cases,
     ]:
         group()
 

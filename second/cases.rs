@@ -1,5 +1,6 @@
 //! Run cases: reads one case from its line, makes the call, and gives the line to print.
 
+use crate::outline;
 use crate::patch::{Patch, Refusal};
 use crate::records;
 use crate::walk::{self, Progress, Record};
@@ -72,6 +73,8 @@ pub fn answer(case: &str) -> Option<String> {
     let answer = match call {
         "start" | "step" | "run" => walk_answer(call, &mut arguments),
         "write_patch" | "write_surface" => write_answer(call, &mut arguments),
+        "chains" => chains_answer(&mut arguments),
+        "south_part" | "north_part" => part_answer(call, &mut arguments),
         "cocircuit" => cocircuit_answer(&mut arguments),
         "read_patch" => read_patch_answer(&arguments.run::<u8>()),
         _ => plain_answer(call, &mut arguments).unwrap_or_else(refused),
@@ -157,6 +160,21 @@ fn write_answer(call: &str, arguments: &mut Arguments) -> String {
     };
     let answer = written.map_or_else(refused, |count| format!("bytes {count}"));
     format!("{answer} {}", shown(&buffer))
+}
+
+fn chains_answer(arguments: &mut Arguments) -> String {
+    let patch = arguments.patch();
+    let (mut south, mut north) = (arguments.run::<u8>(), arguments.run::<u8>());
+    let lengths = patch.and_then(|patch| outline::write_chains(&patch, [&mut south, &mut north]));
+    let answer = lengths.map_or_else(refused, |[south, north]| format!("lengths {south} {north}"));
+    format!("{answer} {} {}", shown(&south), shown(&north))
+}
+
+fn part_answer(call: &str, arguments: &mut Arguments) -> String {
+    let buffers = [arguments.run::<u8>(), arguments.run::<u8>()];
+    let lengths: [u64; 2] = [arguments.number(), arguments.number()];
+    let which = usize::from(call == "north_part");
+    format!("bytes {}", shown(outline::part(&buffers[which], lengths[which])))
 }
 
 fn walk_answer(call: &str, arguments: &mut Arguments) -> String {

@@ -5,6 +5,7 @@
 
 mod cases;
 mod geometry;
+mod outline;
 mod patch;
 mod records;
 mod surface;

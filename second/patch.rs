@@ -1,4 +1,4 @@
-//! A patch: its shots, pairs, triples and circuits.
+//! A patch: its shots, pairs, outline, triples and circuits.
 
 use crate::geometry::{cross, opposed, turn, Homogeneous};
 use std::cell::OnceCell;
@@ -129,13 +129,20 @@ impl Patch {
         &self.border
     }
 
-    /// The number of sides (request E1): the edges of the strict convex hull, south from left to right and north back.
+    /// The number of sides (request E1): the edges of the two chains.
     pub fn sides(&self) -> usize {
+        self.chains().iter().map(|chain| chain.len() - 1).sum()
+    }
+
+    /// The strict convex hull as two chains from left to right (request E5): south, then north, each with both ends.
+    pub fn chains(&self) -> [Vec<usize>; 2] {
         let mut along: Vec<_> = (0..self.len()).collect();
         along.sort_by_key(|&shot| self.shots[shot]);
         let south = self.left_turns(&along);
         along.reverse();
-        south.len() - 1 + self.left_turns(&along).len() - 1
+        let mut north = self.left_turns(&along);
+        north.reverse();
+        [south, north]
     }
 
     /// The chain from the first of these shots to the last that turns strictly left at each shot between.

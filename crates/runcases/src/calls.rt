@@ -5,6 +5,9 @@ use super::SHOTS_ROOM;
 use super::parse;
 use super::parse::NUMBERS_MOST;
 use super::show;
+use outline::Facing;
+use outline::Lengths;
+use outline::Outlined;
 use surfaces::Surface;
 use triples::Triples;
 use walks::Walk;
@@ -88,6 +91,16 @@ fn written(answer: records::Written) {
     match answer {
         records::Written::Bytes(k) => show::field(b" bytes ", k as u64),
         records::Written::Refused(n) => show::refused(n),
+    }
+}
+
+fn outlined(answer: Outlined) {
+    match answer {
+        Outlined::Chains(lengths) => {
+            show::field(b" lengths ", lengths.south as u64);
+            show::field(b" ", lengths.north as u64);
+        }
+        Outlined::Refused(n) => show::refused(n),
     }
 }
 
@@ -259,10 +272,51 @@ fn of_records(line: &[u8], shots: &[i32], bytes: &mut [u8], list: Triples) -> bo
     false
 }
 
+// ---- the outline
+
+fn show_chains(shots: &[i32], south: &mut [u8], north: &mut [u8]) {
+    outlined(outline::chains(shots, south, north));
+    show::bytes(south);
+    show::bytes(north);
+}
+
+fn show_part<'a>(facing: Facing, south: &'a [u8], north: &'a [u8], lengths: Lengths) {
+    show::text(b" bytes");
+    show::bytes(outline::part(facing, south, north, lengths));
+}
+
+fn of_outline(
+    line: &[u8],
+    shots: &[i32],
+    south: &mut [u8],
+    north: &mut [u8],
+    lengths: Lengths,
+) -> bool {
+    if parse::is(line, b"chains") {
+        show_chains(shots, south, north);
+        return true;
+    }
+    if parse::is(line, b"south_part") {
+        show_part(Facing::South, south, north, lengths);
+        return true;
+    }
+    if parse::is(line, b"north_part") {
+        show_part(Facing::North, south, north, lengths);
+        return true;
+    }
+    false
+}
+
 // ---- a line
 
 // Whether the line's word is a call's; then it is made, and its answer is printed.
-fn called(line: &[u8], shots: &[i32], table: &mut [u64], bytes: &mut [u8]) -> bool {
+fn called(
+    line: &[u8],
+    shots: &[i32],
+    table: &mut [u64],
+    bytes: &mut [u8],
+    more: &mut [u8],
+) -> bool {
     let numbers = parse::numbers(line);
     let a = numbers[0] as usize;
     let b = numbers[1] as usize;
@@ -277,45 +331,66 @@ fn called(line: &[u8], shots: &[i32], table: &mut [u64], bytes: &mut [u8]) -> bo
     if of_walks(line, shots, table, &numbers) {
         return true;
     }
-    of_records(line, shots, bytes, list)
+    if of_records(line, shots, bytes, list) {
+        return true;
+    }
+    of_outline(line, shots, bytes, more, Lengths { south: a, north: b })
 }
 
 // The word, the answer, and what was left; an unknown word is said to be so.
-fn answer(line: &[u8], shots: &[i32], table: &mut [u64], bytes: &mut [u8]) {
+fn answer(line: &[u8], shots: &[i32], table: &mut [u64], bytes: &mut [u8], more: &mut [u8]) {
     show::text(parse::word(line));
-    if !called(line, shots, table, bytes) {
+    if !called(line, shots, table, bytes, more) {
         show::text(b" unknown");
     }
     show::text(b"\n");
 }
 
-// The bytes of a case, as far as there is room: of read_patch the line's first run, of the others its second.
-fn bytes_of(
-    line: &[u8],
-    first: &[u64],
-    k: usize,
-    second: &[u64],
-    m: usize,
-    bytes: &mut [u8],
-) -> usize
-    requires { ⌜ (k ≤ length (now first)) × (m ≤ length (now second)) ⌝ }
-    ensures { λ r. ⌜ r ≤ length (now (bytes .exit)) ⌝ }
+// The shots of a case: the line's first run; cells hold it on the way.
+fn shots_of(line: &[u8], cells: &mut [u64], shots: &mut [i32]) -> usize
+    ensures { λ r. ⌜ r ≤ length (now (shots .exit)) ⌝ }
 {
-    if parse::is(line, b"read_patch") {
-        return parse::bytes(first, k, bytes);
-    }
-    parse::bytes(second, m, bytes)
+    let k = parse::gather(line, 1, cells);
+    parse::coordinates(cells, k, shots)
 }
 
-// A case's line; a remark and an empty line are none.
-pub fn case(line: &[u8], first: &mut [u64], second: &mut [u64], bytes: &mut [u8]) {
+// A run of a line as bytes, as far as there is room; cells hold it on the way.
+fn bytes_of(line: &[u8], run: usize, cells: &mut [u64], bytes: &mut [u8]) -> usize
+    ensures { λ r. ⌜ r ≤ length (now (bytes .exit)) ⌝ }
+{
+    let k = parse::gather(line, run, cells);
+    parse::bytes(cells, k, bytes)
+}
+
+// Which run of a line is the first of bytes: a call that takes no shots begins with it, the others have it behind them.
+fn bytes_run(line: &[u8]) -> usize
+    ensures { λ r. ⌜ r ≤ 2 ⌝ }
+{
+    if parse::is(line, b"read_patch") {
+        return 1;
+    }
+    if parse::is(line, b"south_part") || parse::is(line, b"north_part") {
+        return 1;
+    }
+    2
+}
+
+// A case's line; a remark and an empty line are none. The cells hold each run in turn, the table last.
+pub fn case(line: &[u8], cells: &mut [u64], bytes: &mut [u8], more: &mut [u8]) {
     if line.len() == 0 || parse::byte(line, 0) == b'#' {
         return;
     }
     let mut shots = [0i32; SHOTS_ROOM];
-    let k = parse::gather(line, 1, first);
-    let m = parse::gather(line, 2, second);
-    let n = parse::coordinates(first, k, &mut shots);
-    let size = bytes_of(line, first, k, second, m, bytes);
-    answer(line, &shots[..n], &mut second[..m], &mut bytes[..size]);
+    let n = shots_of(line, cells, &mut shots);
+    let run = bytes_run(line);
+    let size = bytes_of(line, run, cells, bytes);
+    let rest = bytes_of(line, run + 1, cells, more);
+    let m = parse::gather(line, 2, cells);
+    answer(
+        line,
+        &shots[..n],
+        &mut cells[..m],
+        &mut bytes[..size],
+        &mut more[..rest],
+    );
 }

@@ -26,14 +26,14 @@ fn load(stream: &mut [u8; STREAM_ROOM]) -> usize
 // The cases, line by line.
 fn all(
     stream: &[u8],
-    first: &mut [u64; BYTES_ROOM],
-    second: &mut [u64; TABLE_ROOM],
+    cells: &mut [u64; TABLE_ROOM],
     bytes: &mut [u8; BYTES_ROOM],
+    more: &mut [u8; BYTES_ROOM],
 ) {
     let mut at = 0;
     while at < stream.len() {
         let end = parse::line_end(stream, at);
-        calls::case(&stream[at..end], first, second, bytes);
+        calls::case(&stream[at..end], cells, bytes, more);
         at = end + 1;
     }
 }
@@ -44,8 +44,8 @@ fn main() {
     if STREAM_MOST < n {
         return show::text(b"stream too long\n");
     }
-    let mut first = [0u64; BYTES_ROOM];
-    let mut second = [0u64; TABLE_ROOM];
+    let mut cells = [0u64; TABLE_ROOM];
     let mut bytes = [0u8; BYTES_ROOM];
-    all(&stream[..n], &mut first, &mut second, &mut bytes);
+    let mut more = [0u8; BYTES_ROOM];
+    all(&stream[..n], &mut cells, &mut bytes, &mut more);
 }

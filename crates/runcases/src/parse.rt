@@ -5,6 +5,9 @@ ghost use lib.ListN.{length};
 // A line has at most so many numbers outside its runs.
 pub const NUMBERS_MOST: usize = 8;
 
+// A line has at most so many runs.
+const RUNS_MOST: usize = 3;
+
 // Where in a line a byte stands: behind how many opening brackets, and whether inside.
 struct Place {
     runs: usize,
@@ -166,7 +169,7 @@ fn ends(c: u8) -> bool {
 // The place behind a byte.
 fn moved(p: Place, c: u8) -> Place {
     if c == b'[' {
-        if p.runs < 2 {
+        if p.runs < RUNS_MOST {
             return Place {
                 runs: p.runs + 1,
                 inside: true,
@@ -182,7 +185,7 @@ fn moved(p: Place, c: u8) -> Place {
     p
 }
 
-// The run that a place is in: 1 or 2, or 0 outside.
+// The run that a place is in: 1 for the first, or 0 outside.
 fn run_of(p: Place) -> usize {
     if p.inside {
         return p.runs;
@@ -201,7 +204,7 @@ fn taken(cells: &mut [u64], len: usize, s: Scan, c: u8, wanted: bool) -> usize
     len
 }
 
-// The numbers of a line's run, 1 or 2, or for 0 those outside both, into cells, as far as there is room; how many there are.
+// The numbers of a line's run, 1 for the first, or for 0 those outside all runs, into cells, as far as there is room; how many there are.
 pub fn gather(line: &[u8], run: usize, cells: &mut [u64]) -> usize
     ensures { λ r. ⌜ r ≤ length (now (cells .exit)) ⌝ }
 {

@@ -6,10 +6,10 @@ use Rattle.runcases.proofs.all.Statement.{statement}
 use Rattle.runcases.proofs.all.Tie as tie
 
 abbrev Inv-loop : tie.InvT-loop
-Inv-loop stream first₀ second₀ bytes₀ at₀ first second bytes at = at ≤ length stream + 1
+Inv-loop stream cells₀ bytes₀ more₀ at₀ cells bytes more at = at ≤ length stream + 1
 
 abbrev μ-loop : tie.MeasureT-loop
-μ-loop stream first₀ second₀ bytes₀ at₀ first second bytes at = length stream + 1 - at
+μ-loop stream cells₀ bytes₀ more₀ at₀ cells bytes more at = length stream + 1 - at
 
 pub all-spec : {M : Type 1} → statement M
 all-spec =
