@@ -1,6 +1,6 @@
 /*
- * calls: every call of patch.h, with document 01's cases, the areas that E6 asks for and E1's patch. It prints each case that does not answer as it
- * should, then how many did.
+ * calls: every call of patch.h, with document 01's cases, the areas that E6 asks for, E1's patch and E5's chains. It prints each case that does not
+ * answer as it should, then how many did.
  * What a call lends it finds unchanged where it is refused.
  */
 #include "patch.h"
@@ -27,6 +27,10 @@ static const int32_t square[] = {0, 0, 2, 0, 2, 2, 0, 2, 1, 1};
 /* the square with a shot halfway along a straight fence: four sides (E1) */
 static const int32_t fence[] = {0, 0, 2, 0, 2, 2, 0, 2, 1, 0};
 enum { N = 10 };
+/* refused: 2, 3 and 4 */
+static const int32_t beyond[] = {0, 0, 1000001, 0, 0, -1000000};
+static const int32_t equal[] = {0, 0, 1, 0, 0, 0, 5, 5};
+static const int32_t line[] = {0, 0, 1, 1, 7, 7, -2, -2};
 /* five shots have ten triples: 012 013 014 023 024 034 123 124 134 234 */
 enum { T012 = 1 << 0, T013 = 1 << 1, T023 = 1 << 3, T024 = 1 << 4, T034 = 1 << 5, T123 = 1 << 6, T234 = 1 << 9 };
 
@@ -38,17 +42,14 @@ static uint8_t tested(uint64_t low, uint64_t high)
 
 static void patches(void)
 {
-    int32_t far[] = {0, 0, 1000000, 0, 0, -1000000};
-    static const int32_t equal[] = {0, 0, 1, 0, 0, 0, 5, 5};
-    static const int32_t line[] = {0, 0, 1, 1, 7, 7, -2, -2};
+    static const int32_t far[] = {0, 0, 1000000, 0, 0, -1000000};
     static const int32_t eleven[22];
     IS(patch_accept(square, N) == 0);
     IS(patch_accept(square, 9) == PATCH_COUNT);
     IS(patch_accept(square, 4) == PATCH_COUNT);
     IS(patch_accept(eleven, 22) == PATCH_COUNT);
     IS(patch_accept(far, 6) == 0);
-    far[2] = 1000001;
-    IS(patch_accept(far, 6) == PATCH_RANGE);
+    IS(patch_accept(beyond, 6) == PATCH_RANGE);
     IS(patch_accept(equal, 8) == PATCH_EQUAL);
     IS(patch_accept(line, 8) == PATCH_LINE);
 }
@@ -78,6 +79,63 @@ static void places(void)
     IS(patch_border(square, 3, &count) == PATCH_COUNT && count == 4);
     count = 99;
     IS(patch_border(fence, N, &count) == 0 && count == 4);
+}
+
+/* what patch_chains is lent */
+enum { ROOM = PATCH_SHOTS_MOST };
+static uint8_t south[ROOM + 1], north[ROOM + 1];
+static size_t south_length, north_length;
+
+/* the call, told of so much room in the buffers */
+static uint8_t chained(const int32_t *shots, size_t length, size_t south_room, size_t north_room)
+{
+    memset(south, 0xee, sizeof south);
+    memset(north, 0xee, sizeof north);
+    south_length = north_length = 99;
+    return patch_chains(shots, length, south, south_room, north, north_room, &south_length, &north_length);
+}
+
+/* a buffer has these shots in front, and behind them what it was lent with */
+static int has(const uint8_t *buffer, const char *shots)
+{
+    size_t count = strlen(shots), same = 0;
+    while (same <= ROOM && buffer[same] == (same < count ? shots[same] - '0' : 0xee))
+        same++;
+    return same > ROOM;
+}
+
+static int chains_are(const char *lower, const char *upper)
+{
+    return south_length == strlen(lower) && north_length == strlen(upper) && has(south, lower) && has(north, upper);
+}
+
+static int chains_stay(void)
+{
+    return south_length == 99 && north_length == 99 && has(south, "") && has(north, "");
+}
+
+static void outline(void)
+{
+    /* shots 0 and 5 halfway along upright sides */
+    static const int32_t upright[] = {0, 1, 0, 0, 0, 2, 1, 0, 1, 2, 1, 1};
+    static const int32_t upright_left[] = {0, 0, 0, 4, 3, 1};
+    static const int32_t upright_right[] = {3, 0, 3, 4, 0, 1};
+    static const int32_t bowl[] = {-4, 16, -3, 9, -2, 4, -1, 1, 0, 0, 1, 1, 2, 4, 3, 9, 4, 16, 5, 25};
+    IS(chained(square, N, ROOM, ROOM) == 0 && chains_are("012", "032"));
+    IS(chained(square, N, 3, 3) == 0 && chains_are("012", "032"));
+    IS(chained(square, N, 2, 3) == PATCH_ROOM && chains_stay());
+    IS(chained(square, N, 3, 2) == PATCH_ROOM && chains_stay());
+    IS(chained(square, N, 0, 0) == PATCH_ROOM && chains_stay());
+    IS(chained(fence, N, ROOM, ROOM) == 0 && chains_are("012", "032"));
+    IS(chained(upright, 12, ROOM, ROOM) == 0 && chains_are("134", "124"));
+    IS(chained(upright_left, 6, 2, 3) == 0 && chains_are("02", "012"));
+    IS(chained(upright_right, 6, 3, 2) == 0 && chains_are("201", "21"));
+    IS(chained(bowl, 20, ROOM, ROOM) == 0 && chains_are("0123456789", "09"));
+    IS(chained(bowl, 20, ROOM - 1, ROOM) == PATCH_ROOM && chains_stay());
+    IS(chained(square, 9, 0, 0) == PATCH_COUNT && chains_stay());
+    IS(chained(beyond, 6, ROOM, ROOM) == PATCH_RANGE && chains_stay());
+    IS(chained(equal, 8, ROOM, ROOM) == PATCH_EQUAL && chains_stay());
+    IS(chained(line, 8, ROOM, ROOM) == PATCH_LINE && chains_stay());
 }
 
 static void circuits(void)
@@ -175,6 +233,7 @@ int main(void)
 {
     patches();
     places();
+    outline();
     circuits();
     lists();
     surfaces();

@@ -4,8 +4,8 @@
  *     client PATCH [SURFACE]
  *
  * reads a patch record and, where one is named, a surface record, and tests it. It prints the refusal in words, or the numbers of shots and
- * sides, the double area, and every surface that flips reach from the stored one (from the placing surface where none is named). Exit status:
- * 0, 1 where a record is refused, 2 where a file cannot be read.
+ * sides, the double area, the outline as a south and a north chain, and every surface that flips reach from the stored one (from the placing surface
+ * where none is named). Exit status: 0, 1 where a record is refused, 2 where a file cannot be read.
  */
 #include "patch.h"
 
@@ -88,6 +88,27 @@ static uint8_t measure(const int32_t *shots, size_t length, const uint64_t *list
     return refusal;
 }
 
+static void show_chain(const char *facing, const uint8_t *chain, size_t length)
+{
+    printf("%s", facing);
+    for (size_t at = 0; at < length; at++)
+        printf(" %u", chain[at]);
+    putchar('\n');
+}
+
+/* the corners, left to right along the south and along the north */
+static uint8_t show_outline(const int32_t *shots, size_t length)
+{
+    uint8_t south[PATCH_SHOTS_MOST], north[PATCH_SHOTS_MOST];
+    size_t south_length, north_length;
+    uint8_t refusal = patch_chains(shots, length, south, sizeof south, north, sizeof north, &south_length, &north_length);
+    if (refusal == 0) {
+        show_chain("south", south, south_length);
+        show_chain("north", north, north_length);
+    }
+    return refusal;
+}
+
 /* All surfaces from the first one. The table grows when it is full: the same step is then asked again over the longer one. */
 static uint8_t walk_from(const int32_t *shots, size_t length, const uint64_t *first)
 {
@@ -152,6 +173,9 @@ int main(int argc, char **argv)
     if (refusal != 0)
         return refused(argv[argc - 1], refusal);
     printf("%s: accepted, %zu shots, %zu sides, double area %" PRIu64 "\n", argv[1], count, sides, twice);
+    refusal = show_outline(shots, length);
+    if (refusal != 0)
+        return refused(argv[1], refusal);
     refusal = walk_from(shots, length, list);
     return refusal == 0 ? 0 : refused("walk", refusal);
 }

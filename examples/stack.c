@@ -21,10 +21,10 @@ enum { N = sizeof shots / sizeof shots[0], ROWS = 5000 };
 static int8_t signs[PATCH_SHOTS_MOST];
 static int64_t signed_area;
 static uint64_t area, list[PATCH_WORDS], table[ROWS * PATCH_WORDS];
-static size_t count, size;
+static size_t count, size, south_length, north_length;
 static uint16_t plus, minus;
 static patch_walk walk;
-static uint8_t answer, done, bytes[PATCH_SURFACE_BYTES];
+static uint8_t answer, done, bytes[PATCH_SURFACE_BYTES], south[PATCH_SHOTS_MOST], north[PATCH_SHOTS_MOST];
 static int32_t back[PATCH_COORDINATES_MOST];
 
 static void accept(void) { answer = patch_accept(shots, N); }
@@ -32,6 +32,7 @@ static void orientation(void) { answer = patch_orientation(shots, N, 0, 1, 9, &s
 static void double_area(void) { answer = patch_double_area(shots, N, 0, 1, 9, &area); }
 static void cocircuit(void) { answer = patch_cocircuit(shots, N, 0, 9, signs); }
 static void border(void) { answer = patch_border(shots, N, &count); }
+static void chains(void) { answer = patch_chains(shots, N, south, sizeof south, north, sizeof north, &south_length, &north_length); }
 static void circuits(void) { answer = patch_circuits(shots, N, &count); }
 static void circuit(void) { answer = patch_circuit(shots, N, count - 1, &plus, &minus); }
 static void placing(void) { answer = patch_placing(shots, N, list); }
@@ -116,6 +117,7 @@ int main(void)
     needs(double_area, "patch_double_area", 0);
     needs(cocircuit, "patch_cocircuit", 0);
     needs(border, "patch_border", 0);
+    needs(chains, "patch_chains", 0);
     needs(circuits, "patch_circuits", 0);
     needs(circuit, "patch_circuit", 0);
     needs(placing, "patch_placing", 0);

@@ -58,7 +58,7 @@ enum patch_refusal {
     PATCH_EMPTY = 10,     /* the list is empty */
     PATCH_CROSSING = 8,   /* two triangles cross, overlap, or meet in part of an edge */
     PATCH_OPEN = 9,       /* an edge is open: one triangle alone has it, and it is not on the border */
-    PATCH_ROOM = 11,      /* no room: in a table for a row, in a buffer for a record */
+    PATCH_ROOM = 11,      /* no room: in a table for a row, in a buffer for a record or a chain */
     PATCH_CIRCUIT = 12,   /* there is no circuit of this number */
     PATCH_NO_FLIP = 13,   /* there is no flip along this circuit */
     PATCH_WALK = 15       /* no walk has this record: rows 0 or beyond the table, or a step number above rows times circuits */
@@ -101,6 +101,16 @@ uint8_t patch_cocircuit(const int32_t *shots, size_t length, size_t i, size_t j,
 /* *count: the sides of the patch. A side is a pair of shots with no two others on opposite sides of their line, and every other shot on that
    line between the two: shots along a straight fence make one side. Refused: 1 2 3 4. */
 uint8_t patch_border(const int32_t *shots, size_t length, size_t *count);
+
+/* ---- outline: the corners of the patch, the ends of its sides, as two chains of shot numbers */
+
+/* south, north: the two chains, each at the front of its buffer; all behind it stays. Both run left to right, from the leftmost shot (the lowest
+   of equals) to the rightmost (the highest of equals), and both have both ends. The south chain has every shot on its left or along it, the north
+   chain on its right or along it: an upright right side is in the south chain, an upright left side in the north chain. *south_length,
+   *north_length: the shots of each, at most PATCH_SHOTS_MOST. The filled part of a buffer is then south[0 .. *south_length - 1], so C needs no call
+   for it (in Rattle outline::part hands it back). Refused: 1 2 3 4, 11 (either buffer is shorter than its chain). */
+uint8_t patch_chains(const int32_t *shots, size_t length, uint8_t *south, size_t south_room, uint8_t *north, size_t north_room, size_t *south_length,
+                     size_t *north_length);
 
 /* ---- circuits: three shots on a line, or four of which no three are; split in two sides whose hulls meet */
 

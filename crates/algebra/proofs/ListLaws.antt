@@ -2,6 +2,7 @@
 --
 --   getD-mem, mem-getD    what stands at a place is in the list, and what is in the list stands at a place
 --   getD-map              what stands at a place of a mapped list, whatever stands for no place
+--   two-parts             two numbers as a list
 --   some-member           a member with a property, or none has it
 --   each-cons, neither    what each member of a list has, and what is no member of it, from its head on
 --   Split a xs            xs as what stands before a, a itself, and what stands behind it; `split-at`: a member splits its list
@@ -25,6 +26,9 @@ use native.Mathlib.Omega.{arith}
 use native.Mathlib.Nat.{not-suc-le-zero}
 use lib.ListN.{length, getD, length-append}
 use Rattle.algebra.specs.Sets.{Exactly}
+
+pub two-parts : {i j k l : ℕ} → _≡_ {A = List ℕ} (i ∷ j ∷ []) (k ∷ l ∷ []) → (i ≡ k) × (j ≡ l)
+two-parts e = (ap (λ (s : List ℕ). getD s 0 0) e, ap (λ (s : List ℕ). getD s 1 0) e)
 
 module _ {A B : Type 0} (g : A → B) where
   pub getD-map : (xs : List A) (i : ℕ) (d : A) (e : B) → i < length xs → getD (map g xs) i e ≡ g (getD xs i d)

@@ -9,24 +9,26 @@
 --   self-neg         a number that is its own negative is 0
 --   pos-of-mul, neg-of-mul, nn-of-mul, zero-of-mul     a factor taken away
 --   factor-l, factor-r   no factor of a negative product is 0
---   dec-pos, dec-nz, np-of, zero-if     positive or not, 0 or not, and what is not positive, not other than 0
+--   dec-pos, dec-nz, np-of, nn-of, zero-if     positive or not, 0 or not, and what is not positive, not negative, not other than 0
+--   nn-np, sum-zero-l, sum-zero-r     neither negative nor positive is 0; a sum of numbers that are not negative is 0 where both are
 --   nn-shared        two numbers that have not the opposite sign of a third one, which is not 0, have not opposite signs
 --   two-alike        of three numbers, two have not opposite signs
 --   square-nn, square-pos, squares-zero, square-mul     squares; one times a product
 --   signOf-pos, signOf-neg, signOf-zero     the sign as a value, from the statement
 --   pos-signOf, neg-signOf, zero-signOf     and back
+--   value-nz, valued-pos, valued-nn     a number times the sign of a side
 --   scaled-sign      numbers that are the same up to positive factors have the same sign
 --   signOf-opposite, opposite-opposite, nought-opposite     a number and its negative
 --   plus-minus, plus-nought, minus-nought     signs are told apart
 --   other-side, nought-side, sides-differ     the opposite of a side is a side, and another one; nought is none
 --   opposite-signed, same-self, same-turned, turned-other, value-nought      the tests of signs
 use mathlib.Core.Path.{_≡_, refl, sym, _∙_, ap, ap₂, subst}
-use mathlib.Core.Logic.{inl, inr, ⊎-elim}
+use mathlib.Core.Logic.{inl, inr, ⊎-elim, _↔_}
 use mathlib.Core.Bool.{true, false, not, true≢false}
 use mathlib.Core.List.{[], _∷_}
 use Prim.Native.Nat.{ℕ, zero, suc, _+_, _*_}
 use native.Mathlib.Omega.{arith}
-use lib.IntN.{ℤ, pos, negsuc, negℤ, _+ℤ_, _*ℤ_, negℤ-negℤ, *ℤ-zero, zero-*ℤ, ℤ-discrete}
+use lib.IntN.{ℤ, pos, negsuc, negℤ, _+ℤ_, _*ℤ_, +ℤ-comm, negℤ-negℤ, *ℤ-zero, zero-*ℤ, ℤ-discrete}
 use Rattle.algebra.specs.Sign.{Sign, minus, nought, plus, signOf, opposite, value, isNought, sameSign, eqZ, Pos, NN, Neg, NP, NZ, Tri, below, at-nought, above, Side}
 use Rattle.algebra.proofs.IntLaws.{*ℤ-neg-r}
 use Rattle.algebra.proofs.Ring.{cst, var, _⊕_, _⊗_, neg, ring}
@@ -194,6 +196,28 @@ np-of z k = go (tri z)
     go (at-nought e) = nn-zero (ap negℤ e)
     go (below p) = pos-nn p
 
+pub nn-of : (z : ℤ) → (Neg z → ⊥) → NN z
+nn-of z k = nn-cast (negℤ-negℤ z) (np-of (negℤ z) k)
+
+pub nn-np : (z : ℤ) → NN z → NP z → z ≡ pos 0
+nn-np z h k = go (tri z)
+  where
+    go : Tri z → z ≡ pos 0
+    go (above p) = pos-np p k
+    go (at-nought e) = e
+    go (below p) = neg-nn p h
+
+pub sum-zero-l : (x y : ℤ) → NN x → NN y → x +ℤ y ≡ pos 0 → x ≡ pos 0
+sum-zero-l x y h k e = go (tri x)
+  where
+    go : Tri x → x ≡ pos 0
+    go (above p) = pos-zero (pos-nn-add p k) e
+    go (at-nought z) = z
+    go (below p) = neg-nn p h
+
+pub sum-zero-r : (x y : ℤ) → NN x → NN y → x +ℤ y ≡ pos 0 → y ≡ pos 0
+sum-zero-r x y h k e = sum-zero-l y x k h (+ℤ-comm y x ∙ e)
+
 pub factor-l : (a b : ℤ) → Neg (a *ℤ b) → NZ a
 factor-l a b h e = pos-zero h (ap negℤ (zero-mul b e))
 
@@ -315,6 +339,32 @@ opposite-opposite plus = refl
 pub nought-opposite : (s : Sign) → s ≡ nought → opposite s ≡ nought
 unfolding opposite
 nought-opposite s e = ap opposite e
+
+-- a number times the sign of a side, as 1 or -1
+pub value-nz : (s : Sign) → Side s → NZ (value s)
+unfolding value
+value-nz plus _ = pos-zero (record { by = 0; is = refl })
+value-nz minus _ = λ e. pos-zero (record { by = 0; is = refl }) (ap negℤ e)
+value-nz nought k = absurd (nought-side k)
+
+value-plus : (z : ℤ) → value plus *ℤ z ≡ z
+unfolding value
+value-plus z = ring (z ∷ []) (cst (pos 1) ⊗ var 0) (var 0) tt
+
+value-minus : (z : ℤ) → value minus *ℤ z ≡ negℤ z
+unfolding value
+value-minus z = ring (z ∷ []) (cst (negsuc 0) ⊗ var 0) (neg (var 0)) tt
+
+pub valued-pos : (s : Sign) → Side s → (z : ℤ) → Pos (value s *ℤ z) ↔ (signOf z ≡ s)
+valued-pos plus _ z = (λ h. signOf-pos z (pos-cast (value-plus z) h), λ e. pos-cast (sym (value-plus z)) (pos-signOf z e))
+valued-pos minus _ z = (λ h. signOf-neg z (pos-cast (value-minus z) h), λ e. pos-cast (sym (value-minus z)) (neg-signOf z e))
+valued-pos nought k z = absurd (nought-side k)
+
+pub valued-nn : (s : Sign) → Side s → (z : ℤ) → NN (value s *ℤ z) ↔ (signOf z ≡ opposite s → ⊥)
+unfolding opposite
+valued-nn plus _ z = (λ h e. neg-nn (neg-signOf z e) (nn-cast (value-plus z) h), λ f. nn-of _ (λ h. f (signOf-neg z (pos-cast (ap negℤ (value-plus z)) h))))
+valued-nn minus _ z = (λ h e. neg-nn (pos-cast (sym (negℤ-negℤ z)) (pos-signOf z e)) (nn-cast (value-minus z) h), λ f. nn-of _ (λ h. f (signOf-pos z (pos-cast (ap negℤ (value-minus z) ∙ negℤ-negℤ z) h))))
+valued-nn nought k z = absurd (nought-side k)
 
 -- ---- tests of signs
 

@@ -2,6 +2,7 @@
 --
 --   natAbs-zero               a number of size 0 is 0
 --   natAbs-neg, natAbs-add, natAbs-sub, natAbs-mul, mul-size    sizes of sums and products
+--   size-nn                   a number and a bound of its size
 --   sfits-size, size-sfits    a number fits a signed width where its size is small, and the other way round
 --   read-back                 what is read from the bits of a result is the result
 --   eqb-ofZ                   two numbers are the same where their bits are
@@ -18,7 +19,7 @@ use lib.Signed.{mag, ltZ}
 use mir.Syntax.{Width, w8}
 use mir.Val.{SFits, hbits, bits, toZ, ofZ}
 use mir.ValLaws.{toZ-ofZ, pow-bits}
-use Rattle.algebra.specs.Sign.{Sign, minus, nought, plus, signOf, value, isMinus, isNought, isPlus, sameSign, eqZ}
+use Rattle.algebra.specs.Sign.{Sign, minus, nought, plus, signOf, value, NN, isMinus, isNought, isPlus, sameSign, eqZ}
 
 pub natAbs-zero : (z : ℤ) → natAbs z ≡ 0 → z ≡ pos 0
 natAbs-zero (pos n) e = ap pos e
@@ -47,6 +48,10 @@ natAbs-mul (pos a) (pos b) = refl
 natAbs-mul (pos a) (negsuc b) = natAbs-neg (pos (a * suc b))
 natAbs-mul (negsuc a) (pos b) = natAbs-neg (pos (suc a * b))
 natAbs-mul (negsuc a) (negsuc b) = refl
+
+pub size-nn : (z : ℤ) (m : ℕ) → natAbs z ≤ m → NN (z +ℤ pos m)
+size-nn (pos k) m h = record { by = k + m; is = refl }
+size-nn (negsuc k) m h = record { by = m - suc k; is = ap (λ (t : Bool). cond t (negsuc (suc k - suc m)) (pos (m - suc k))) (le-ltb m (suc k) h) }
 
 mag-size : (z : ℤ) → mag z ≤ natAbs z
 mag-size (pos n) = omega arith

@@ -8,10 +8,10 @@ use Rattle.algebra.specs.Sets.{isOn, allOn, sameList, union, dropped, maskOf, b
 use Rattle.algebra.specs.Writing.{wrote}
 use Rattle.algebra.specs.Words.{setBit, member, putIn, sift, rowOf, setRow}
 use Rattle.shots.specs.Coordinates.{xOf, yOf, areaOf}
-use Rattle.shots.specs.Patch.{orientOf, betweenOf, someLeft, someRight, borderOf, outsideAt, someOutside, sidePairOf}
+use Rattle.shots.specs.Patch.{orientOf, betweenOf, someLeft, someRight, borderOf, outsideAt, someOutside, sidePairOf, beforeOf}
 use Rattle.shots.specs.Tests.{badCount, farAt, someFar, sameAt, sameBefore, someSame, bentAt, bentOf, bentBefore, someBent}
 use Rattle.shots.specs.Calls.{orientationOf, signAt, cocircuitOf, sidesOf, borderCallOf}
-use Rattle.outline.specs.Wrapping.{beforeOf, firstOf, passesOf, nextOf, chainFrom, chainOf}
+use Rattle.outline.specs.Wrapping.{firstOf, passesOf, nextOf, chainFrom, chainOf}
 use Rattle.outline.specs.Calls.{roomOf, chainsOf}
 use Rattle.circuits.specs.Sides.{side, split}
 use Rattle.circuits.specs.Numbering.{oneIf, three, threesWith, threesFrom, threes, four, foursUpon, foursWith, foursFrom, fours, circuitsOf}

@@ -7,28 +7,27 @@
 --   outline-sides      the neighbours of the two chains from p are the sides, each once
 --   outline-corners    and the points of the first but its last, with those of the second but its first, are the corners, each once
 --   outline-three      there are three at least
---   pairs-length       a chain has one pair of neighbours less than points
+--   pairs-many, front-many, back-many    a chain has one pair of neighbours less than points, and so without its last or its first
 use mathlib.Core.Path.{_≡_, refl, sym, _∙_, ap, subst}
 use mathlib.Core.Logic.{_⊎_, inl, inr, ⊎-elim, _↔_}
+use mathlib.Core.Bool.{Bool, cond}
+use mathlib.Core.HLevel.{dec→stable}
 use mathlib.Core.List.{List, [], _∷_, _++_, List·Memᴰ, List·Memᴰ·head, List·Memᴰ·tail, List·Memᴰ·cases-cons, List·Memᴰ·append-cases, List·Memᴰ·not-nil, Memᴰ·append-left, Memᴰ·append-right}
-use Prim.Native.Nat.{ℕ, zero, suc, _+_, _≤_, _<_}
+use Prim.Native.Nat.{ℕ, _+_, _-_, _≤_, _<_}
 use native.Mathlib.Omega.{arith}
 use native.Mathlib.Decide.{ℕ-discrete, decLt}
 use borrow.Author.Tests.{lt-ltb, le-ltb}
-use lib.Dec.{ltb}
 use lib.ListN.{length, getD, length-append}
-use lib.IntN.{ℤ, pos, negℤ, _+ℤ_, _-ℤ_, _*ℤ_, +ℤ-comm, ℤ-discrete, negℤ-negℤ}
-use mathlib.Core.Bool.{Bool, cond}
-use mathlib.Core.HLevel.{dec→stable}
+use lib.IntN.{ℤ, pos, negℤ, _+ℤ_, _-ℤ_, _*ℤ_, +ℤ-comm, ℤ-discrete}
 use Rattle.algebra.specs.Sets.{Exactly}
-use Rattle.algebra.specs.Sign.{Sign, minus, nought, plus, signOf, opposite, value, Pos, NN, Neg, NP, NZ, Tri, below, at-nought, above}
+use Rattle.algebra.specs.Sign.{Sign, value, Pos, NN, NZ, Tri, below, at-nought, above}
 use Rattle.algebra.specs.Sign.{Side as Sided}
-use Rattle.algebra.proofs.IntLaws.{one-*ℤ, *ℤ-neg-l}
-use Rattle.algebra.proofs.ListLaws.{Apart, Other, apart-append, exactly-apart}
-use Rattle.algebra.proofs.SignLaws.{tri, pos-cast, nn-cast, nn-add, pos-nn, pos-nn-add, pos-add, pos-zero, neg-nn, pos-of-nn, zero-if, dec-pos, dec-nz, np-of, nn-zero, mul-zero, signOf-pos, signOf-neg, pos-signOf, neg-signOf, zero-of-mul, self-neg, neg-zero, nought-side}
-use Rattle.matroid.specs.Borders.{Side}
-use Rattle.matroid.specs.Chains.{Before, Leftmost, Rightmost, Neighbours, InRow, Chain, Corner, inOrder, pairsOf, frontOf, backOf}
-use Rattle.matroid.specs.Points.{Point, Points, Distinct, Collinear, turn}
+use Rattle.algebra.proofs.IntLaws.{*ℤ-neg-l}
+use Rattle.algebra.proofs.ListLaws.{two-parts, Apart, Other, apart-append, exactly-apart}
+use Rattle.algebra.proofs.SignLaws.{value-nz, valued-pos, valued-nn, tri, pos-cast, nn-cast, nn-add, pos-nn, pos-nn-add, pos-add, pos-zero, pos-of-nn, zero-if, dec-pos, dec-nz, np-of, nn-zero, zero-of-mul, self-neg, neg-zero}
+use Rattle.matroid.specs.Borders.{Side, SidePair}
+use Rattle.matroid.specs.Chains.{Before, Leftmost, Rightmost, Neighbours, Chain, Corner, inOrder, pairsOf, frontOf, backOf}
+use Rattle.matroid.specs.Points.{Point, Points, Distinct, Collinear}
 use Rattle.matroid.proofs.Lines.{line-through, collinear-iff}
 use Rattle.matroid.proofs.Planar.{points-differ}
 use Rattle.matroid.proofs.Search.{some-below, dec-not}
@@ -52,18 +51,15 @@ ordered i j = go (decLt i j)
     go (yes h) = inl (in-order i j h)
     go (no h) = inr (out-of-order i j (omega (arith, h)))
 
-same-two : {i j k l : ℕ} → _≡_ {A = List ℕ} (i ∷ j ∷ []) (k ∷ l ∷ []) → (i ≡ k) × (j ≡ l)
-same-two e = (ap (λ (s : List ℕ). getD s 0 0) e, ap (λ (s : List ℕ). getD s 1 0) e)
-
--- the first of a pair is one of the other pair, where the two are one
+-- two pairs that are one
 same-pair : (i j k l : ℕ) → inOrder i j ≡ inOrder k l → ((i ≡ k) × (j ≡ l)) ⊎ ((i ≡ l) × (j ≡ k))
 same-pair i j k l e = go (ordered i j) (ordered k l)
   where
     go : (inOrder i j ≡ i ∷ j ∷ []) ⊎ (inOrder i j ≡ j ∷ i ∷ []) → (inOrder k l ≡ k ∷ l ∷ []) ⊎ (inOrder k l ≡ l ∷ k ∷ []) → ((i ≡ k) × (j ≡ l)) ⊎ ((i ≡ l) × (j ≡ k))
-    go (inl p) (inl q) = inl (same-two (sym p ∙ e ∙ q))
-    go (inl p) (inr q) = inr (same-two (sym p ∙ e ∙ q))
-    go (inr p) (inl q) = let (a, b) = same-two (sym p ∙ e ∙ q) in inr (b, a)
-    go (inr p) (inr q) = let (a, b) = same-two (sym p ∙ e ∙ q) in inl (b, a)
+    go (inl p) (inl q) = inl (two-parts (sym p ∙ e ∙ q))
+    go (inl p) (inr q) = inr (two-parts (sym p ∙ e ∙ q))
+    go (inr p) (inl q) = let (a, b) = two-parts (sym p ∙ e ∙ q) in inr (b, a)
+    go (inr p) (inr q) = let (a, b) = two-parts (sym p ∙ e ∙ q) in inl (b, a)
 
 pairs-tail : (x : ℕ) (c : List ℕ) {e : List ℕ} → List·Memᴰ e (pairsOf c) → List·Memᴰ e (pairsOf (x ∷ c))
 pairs-tail x [] m = absurd (List·Memᴰ·not-nil m)
@@ -77,13 +73,19 @@ neighbours-in : (t : List ℕ) (i j : ℕ) → Neighbours t i j → List·Memᴰ
 neighbours-in t i j (front, back, is) =
     subst (λ (x : List ℕ). List·Memᴰ i x × List·Memᴰ j x) (sym is) (Memᴰ·append-right front (List·Memᴰ·head refl), Memᴰ·append-right front (List·Memᴰ·tail (List·Memᴰ·head refl)))
 
-pub pairs-length : (p : ℕ) (c : List ℕ) → length (pairsOf (p ∷ c)) ≡ length c
-pairs-length p [] = refl
-pairs-length p (q ∷ c) = ap suc (pairs-length q c)
+pub pairs-many : (c : List ℕ) → length (pairsOf c) ≡ length c - 1
+pairs-many [] = refl
+pairs-many (p ∷ []) = refl
+pairs-many (p ∷ q ∷ c) = omega (arith, pairs-many (q ∷ c))
 
-pub front-length : (p : ℕ) (c : List ℕ) → length (frontOf (p ∷ c)) ≡ length c
-front-length p [] = refl
-front-length p (q ∷ c) = ap suc (front-length q c)
+pub front-many : (c : List ℕ) → length (frontOf c) ≡ length c - 1
+front-many [] = refl
+front-many (p ∷ []) = refl
+front-many (p ∷ q ∷ c) = omega (arith, front-many (q ∷ c))
+
+pub back-many : (c : List ℕ) → length (backOf c) ≡ length c - 1
+back-many [] = refl
+back-many (p ∷ c) = omega arith
 
 module _ (n : ℕ) (P : Points) (d : Point) (apart : (i j : ℕ) → i < n → j < n → ahead P d i j ≡ pos 0 → i ≡ j) where
   abbrev Ahead : ℕ → ℕ → Type 0
@@ -231,19 +233,6 @@ module _ (n : ℕ) (P : Points) (d : Point) (apart : (i j : ℕ) → i < n → j
   -- ---- the published chain
 
   module _ (order : (i j : ℕ) → i < n → j < n → Before P i j ↔ Ahead i j) where
-    -- a factor of 1 or -1, by its side
-    swung-sign : (σ : Sign) → Sided σ → (z : ℤ) → Pos (value σ *ℤ z) → signOf z ≡ σ
-    unfolding value
-    swung-sign plus _ z h = signOf-pos z (pos-cast (one-*ℤ z) h)
-    swung-sign minus _ z h = signOf-neg z (pos-cast (*ℤ-neg-l (pos 1) z ∙ ap negℤ (one-*ℤ z)) h)
-    swung-sign nought q z h = absurd (nought-side q)
-
-    swung-inside : (σ : Sign) → Sided σ → (z : ℤ) → NN (value σ *ℤ z) → signOf z ≡ opposite σ → ⊥
-    unfolding value opposite
-    swung-inside plus _ z h e = neg-nn (neg-signOf z e) (nn-cast (one-*ℤ z) h)
-    swung-inside minus _ z h e = neg-nn (pos-cast (sym (negℤ-negℤ z)) (pos-signOf z e)) (nn-cast (*ℤ-neg-l (pos 1) z ∙ ap negℤ (one-*ℤ z)) h)
-    swung-inside nought q z h e = absurd (nought-side q)
-
     pub first-leftmost : (p : ℕ) → FirstOf p → Leftmost n P p
     first-leftmost p (pn, h) = (pn, λ k kn ne. order p k pn kn .1 (h k kn ne))
 
@@ -254,8 +243,8 @@ module _ (n : ℕ) (P : Points) (d : Point) (apart : (i j : ℕ) → i < n → j
       ends = let (j, front, is, jn, l) = last-of (value σ) p (first .0) c w in (j, front, is, (jn, λ k kn ne. order k j kn jn .1 (behind k j kn jn (l k kn) ne)));
       onward = λ i j h. let e = edge i j h in order i j (e .from) (e .to) .1 (e .onward);
       strict = λ i j k (front, back, is). let (e, f) = linked-two (value σ) front back i j k (subst (All (value σ)) is w) in
-          swung-sign σ q (turnAt P i j k) (edge-turn P d (value σ) n i j k e (f .to) (f .onward));
-      inside = λ i j h k kn. swung-inside σ q (turnAt P i j k) (edge i j h .inner k kn);
+          valued-pos σ q (turnAt P i j k) .0 (edge-turn P d (value σ) n i j k e (f .to) (f .onward));
+      inside = λ i j h k kn. valued-nn σ q (turnAt P i j k) .0 (edge i j h .inner k kn);
     }
       where
         edge : (i j : ℕ) → Neighbours (p ∷ c) i j → Edge P d (value σ) n i j
@@ -264,31 +253,6 @@ module _ (n : ℕ) (P : Points) (d : Point) (apart : (i j : ℕ) → i < n → j
     -- ---- the words of a chain determine it
 
     module _ (bent : Collinear n P → ⊥) (σ : Sign) (q : Sided σ) where
-      swung-off : (z : ℤ) → NZ z → (signOf z ≡ opposite σ → ⊥) → Pos (value σ *ℤ z)
-      unfolding value opposite
-      swung-off z nz f = go σ q (tri z) f
-        where
-          go : (σ : Sign) → Sided σ → Tri z → (signOf z ≡ opposite σ → ⊥) → Pos (value σ *ℤ z)
-          go plus _ (above h) f = pos-cast (sym (one-*ℤ z)) h
-          go plus _ (at-nought e) f = absurd (nz e)
-          go plus _ (below h) f = absurd (f (signOf-neg z h))
-          go minus _ (above h) f = absurd (f (signOf-pos z h))
-          go minus _ (at-nought e) f = absurd (nz e)
-          go minus _ (below h) f = pos-cast (sym (*ℤ-neg-l (pos 1) z ∙ ap negℤ (one-*ℤ z))) h
-          go nought q _ f = absurd (nought-side q)
-
-      value-off : NZ (value σ)
-      unfolding value
-      value-off = go σ q
-        where
-          one : NZ (pos 1)
-          one = pos-zero (record { by = 0; is = refl })
-
-          go : (σ : Sign) → Sided σ → NZ (value σ)
-          go plus _ = one
-          go minus _ = λ e. one (ap negℤ e)
-          go nought q = absurd (nought-side q)
-
       edge-of : (c : List ℕ) → Chain n P σ c → (i j : ℕ) → Neighbours c i j → Side n P i j → Edge P d (value σ) n i j
       edge-of c h i j m side = go (off-line bent i j (low .0) (low .1) on)
         where
@@ -299,7 +263,7 @@ module _ (n : ℕ) (P : Points) (d : Point) (apart : (i j : ℕ) → i < n → j
           on = order i j (low .0) (low .1) .0 (h .onward i j m)
 
           go : (k : ℕ) × (k < n) × NZ (turnAt P i j k) → Edge P d (value σ) n i j
-          go (k, kn, nz) = side-edge P d (value σ) n value-off i j k (low .0) (low .1) kn on side (swung-off (turnAt P i j k) nz (h .inside i j m k kn))
+          go (k, kn, nz) = side-edge P d (value σ) n (value-nz σ q) i j k (low .0) (low .1) kn on side (pos-of-nn _ (valued-nn σ q (turnAt P i j k) .1 (h .inside i j m k kn)) (λ z. nz (zero-of-mul (value-nz σ q) z)))
 
       wrapped-of : (p : ℕ) (c : List ℕ) → ((i j : ℕ) → Neighbours (p ∷ c) i j → Edge P d (value σ) n i j) → (j : ℕ) (front : List ℕ) → p ∷ c ≡ front ++ j ∷ [] → LastOf j → Wrapped (value σ) p c
       wrapped-of p [] e j [] is l = subst LastOf (sym (ap (λ (t : List ℕ). getD t 0 0) is)) l
@@ -351,13 +315,10 @@ module _ (n : ℕ) (P : Points) (d : Point) (apart : (i j : ℕ) → i < n → j
     turned : (i j : ℕ) → i < n → j < n → Ahead i j → Side n P j i → Side n P i j
     turned i j il jl h side = side-turned n P distinct j i jl il (λ e. ahead-differ i j h (sym e)) side
 
-    abbrev SidePair : List ℕ → Type 0
-    SidePair e = (i : ℕ) × (j : ℕ) × (e ≡ i ∷ j ∷ []) × (i < j) × (j < n) × Side n P i j
-
-    edge-pair : (e : List ℕ) (i j : ℕ) → e ≡ inOrder i j → i < n → j < n → Ahead i j → Side n P i j → SidePair e
+    edge-pair : (e : List ℕ) (i j : ℕ) → e ≡ inOrder i j → i < n → j < n → Ahead i j → Side n P i j → SidePair n P e
     edge-pair e i j is il jl h side = go (decLt i j)
       where
-        go : Dec (i < j) → SidePair e
+        go : Dec (i < j) → SidePair n P e
         go (yes l) = (i, j, is ∙ in-order i j l, l, jl, side)
         go (no l) = (j, i, is ∙ out-of-order i j (omega (arith, l)), omega (arith, l, ahead-differ i j h), il, side-turned n P distinct i j il jl (ahead-differ i j h) side)
 
@@ -367,14 +328,14 @@ module _ (n : ℕ) (P : Points) (d : Point) (apart : (i j : ℕ) → i < n → j
         (λ (front, back, is). Memᴰ·append-right (pairsOf (p ∷ c)) (subst (λ (t : List ℕ). List·Memᴰ (inOrder i j) (pairsOf t)) (sym is) (pairs-in front back i j)))
         (with-pair i j il jl h side)
 
-    pub outline-sides : Exactly [] SidePair (pairsOf (p ∷ c) ++ pairsOf (p ∷ c′))
+    pub outline-sides : Exactly [] (SidePair n P) (pairsOf (p ∷ c) ++ pairsOf (p ∷ c′))
     outline-sides = exactly-apart (pairsOf (p ∷ c) ++ pairsOf (p ∷ c′)) (λ e. (λ m. ⊎-elim (out s sz c w) (out (negℤ s) sz′ c′ w′) (List·Memᴰ·append-cases (pairsOf (p ∷ c)) m), into e))
         (apart-append Other (pairsOf (p ∷ c)) (pairsOf (p ∷ c′)) (pairs-apart s p c w) (pairs-apart (negℤ s) p c′ w′) across)
       where
-        out : (s : ℤ) → NZ s → (c : List ℕ) → Wrapped s p c → {x : List ℕ} → List·Memᴰ x (pairsOf (p ∷ c)) → SidePair x
+        out : (s : ℤ) → NZ s → (c : List ℕ) → Wrapped s p c → {x : List ℕ} → List·Memᴰ x (pairsOf (p ∷ c)) → SidePair n P x
         out s sz c w {x} m = let (i, j, is, e, _) = pairs-out s p c w m in edge-pair x i j is (e .from) (e .to) (e .onward) (edge-side P d s n sz apart i j e)
 
-        into : (e : List ℕ) → SidePair e → List·Memᴰ e (pairsOf (p ∷ c) ++ pairsOf (p ∷ c′))
+        into : (e : List ℕ) → SidePair n P e → List·Memᴰ e (pairsOf (p ∷ c) ++ pairsOf (p ∷ c′))
         into e (i, j, is, l, jn, side) = go (dec-pos (ahead P d i j))
           where
             il : i < n

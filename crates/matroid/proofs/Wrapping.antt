@@ -12,19 +12,18 @@
 --   edge-across         no edge begins between the ends of another
 --   edge-side, side-edge    an edge is a side, and a side with a point inside is an edge
 --   not-both, not-through    on opposite sides: no edge is on both, and none goes on behind one of the other side
-use mathlib.Core.Path.{_≡_, refl, sym, _∙_, ap, subst}
+use mathlib.Core.Path.{_≡_, sym, _∙_, ap, subst}
 use mathlib.Core.Logic.{_⊎_, inl, inr, ⊎-elim}
-use mathlib.Core.HLevel.{dec→stable}
 use mathlib.Core.List.{List, [], _∷_}
-use Prim.Native.Nat.{ℕ, zero, suc, _<_}
+use Prim.Native.Nat.{ℕ, suc, _<_}
 use native.Mathlib.Nat.{not-suc-le-zero}
 use native.Mathlib.Decide.{ℕ-discrete}
-use lib.IntN.{ℤ, pos, negℤ, _+ℤ_, _-ℤ_, _*ℤ_, *ℤ-comm, +ℤ-idr, negℤ-negℤ}
-use Rattle.algebra.specs.Sign.{Pos, NN, Neg, NP, NZ}
+use lib.IntN.{ℤ, pos, negℤ, _+ℤ_, _-ℤ_, _*ℤ_, *ℤ-comm, +ℤ-idr}
+use Rattle.algebra.specs.Sign.{Pos, NN, NP, NZ}
 use Rattle.algebra.proofs.IntLaws.{*ℤ-neg-l, *ℤ-neg-r}
 use Rattle.algebra.proofs.LoopLaws.{last}
-use Rattle.algebra.proofs.Ring.{Ex, cst, var, _⊕_, _⊝_, _⊗_, neg, ring}
-use Rattle.algebra.proofs.SignLaws.{pos-cast, nn-cast, nn-mul, nn-add, pos-nn, pos-nn-add, pos-mul, pos-neg-mul, nn-zero, mul-zero, both-zero, neg-zero, pos-zero, neg-nn, pos-of-nn, pos-of-mul, nn-of-mul, neg-of-mul, zero-of-mul, zero-if, dec-pos, np-of, square-pos, square-mul}
+use Rattle.algebra.proofs.Ring.{Ex, cst, _⊕_, _⊝_, _⊗_, neg, ring}
+use Rattle.algebra.proofs.SignLaws.{pos-cast, nn-cast, nn-mul, nn-add, pos-nn, pos-nn-add, pos-mul, pos-neg-mul, nn-zero, mul-zero, both-zero, neg-zero, pos-zero, neg-nn, pos-of-nn, pos-of-mul, nn-of-mul, neg-of-mul, zero-of-mul, dec-pos, np-of, nn-of, nn-np, sum-zero-l, sum-zero-r, square-pos, square-mul}
 use Rattle.matroid.specs.Borders.{Side}
 use Rattle.matroid.specs.Points.{Point, Points, Between, Collinear}
 use Rattle.matroid.proofs.Borders.{border-sides}
@@ -32,20 +31,9 @@ use Rattle.matroid.proofs.Lines.{line-through}
 use Rattle.matroid.proofs.Sides.{turnAt, sides}
 use Rattle.matroid.proofs.Turns.{coordinates, X, Y, D, turn-cycle, turn-swap, turn-first, turn-last, turn-ends}
 
--- ---- sums of numbers that are not negative
-
-first-zero : (x : ℤ) {y : ℤ} → NN x → NN y → x +ℤ y ≡ pos 0 → x ≡ pos 0
-first-zero x h k e = zero-if x (λ nz. pos-zero (pos-nn-add (pos-of-nn x h nz) k) e)
-
-second-zero : (x y : ℤ) → NN x → NN y → x +ℤ y ≡ pos 0 → y ≡ pos 0
-second-zero x y h k e = first-zero y k h (ring (x ∷ y ∷ []) (var 1 ⊕ var 0) (var 0 ⊕ var 1) tt ∙ e)
-
 -- a product that is 0, with a positive second factor
 left-zero : (x : ℤ) {y : ℤ} → Pos y → x *ℤ y ≡ pos 0 → x ≡ pos 0
 left-zero x {y} h e = zero-of-mul (pos-zero h) (*ℤ-comm y x ∙ e)
-
-both-ways : (z : ℤ) → NN z → NN (negℤ z) → z ≡ pos 0
-both-ways z h k = zero-if z (λ nz. neg-nn (pos-of-nn (negℤ z) k (λ e. nz (neg-zero z e))) h)
 
 module _ (P : Points) (d : Point) where
   abbrev pub ahead : ℕ → ℕ → ℤ
@@ -154,7 +142,7 @@ module _ (P : Points) (d : Point) where
         go k l f (inr h) = (
           nn-of-mul h (nn-cast (sym (swing p q m k)) (nn-add x y)),
           λ e. let z = sym (swing p q m k) ∙ mul-zero (ahead p q) e in
-              nn-cast (ahead-add k q m) (nn-add (b k l f .1 (left-zero (swung p q k) g (first-zero _ x y z))) (pos-nn (far (neg-zero (swung p q m) (left-zero (negℤ (swung p q m)) f (second-zero _ _ x y z)))))),
+              nn-cast (ahead-add k q m) (nn-add (b k l f .1 (left-zero (swung p q k) g (sum-zero-l _ _ x y z))) (pos-nn (far (neg-zero (swung p q m) (left-zero (negℤ (swung p q m)) f (sum-zero-r _ _ x y z)))))),
         )
           where
             x : NN (swung p q k *ℤ ahead p m)
@@ -219,22 +207,22 @@ module _ (P : Points) (d : Point) where
           along k kn z (yes f) = (pos-nn f, b k kn f .1 z)
           along k kn z (no f) =
               let l = np-of (ahead p k) f in
-              let at = neg-zero (ahead p k) (zero-of-mul (pos-zero t) (second-zero _ _ (x k kn) (y k l) (sym (carry o p q k) ∙ mul-zero (ahead o p) z))) in
+              let at = neg-zero (ahead p k) (zero-of-mul (pos-zero t) (sum-zero-r _ _ (x k kn) (y k l) (sym (carry o p q k) ∙ mul-zero (ahead o p) z))) in
               (nn-zero at, nn-cast (ahead-add k p q) (nn-add (nn-cast (ahead-back p k) l) (pos-nn h)))
 
       pub edge-across : (i j p q : ℕ) → Edge i j → Edge p q → Pos (ahead p i) → Pos (ahead i q) → ⊥
       edge-across i j p q e f h k =
-          not-back p i h (e .along p (f .from) (left-zero (swung i j p) k (first-zero _ (nn-mul (e .inner p (f .from)) (pos-nn k))
+          not-back p i h (e .along p (f .from) (left-zero (swung i j p) k (sum-zero-l _ _ (nn-mul (e .inner p (f .from)) (pos-nn k))
           (nn-add (nn-mul (e .inner q (f .to)) (pos-nn h)) (nn-mul (f .inner i (e .from)) (pos-nn (e .onward)))) (level i j p q))) .0)
 
       pub edge-one : ((i j : ℕ) → i < n → j < n → ahead i j ≡ pos 0 → i ≡ j) → (p q r : ℕ) → Edge p q → Edge p r → q ≡ r
-      edge-one apart p q r e f = apart q r (e .to) (f .to) (both-ways (ahead q r) (f .along q (e .to) (turned ∙ ap negℤ flat) .1) (nn-cast (sym (ahead-back q r)) (e .along r (f .to) flat .1)))
+      edge-one apart p q r e f = apart q r (e .to) (f .to) (nn-np (ahead q r) (f .along q (e .to) (turned ∙ ap negℤ flat) .1) (nn-cast (sym (ahead-back q r)) (e .along r (f .to) flat .1)))
         where
           turned : swung p r q ≡ negℤ (swung p q r)
           turned = ap (λ (z : ℤ). s *ℤ z) (turn-swap (P p) (P q) (P r)) ∙ *ℤ-neg-r s (turnAt P p q r)
 
           flat : swung p q r ≡ pos 0
-          flat = both-ways (swung p q r) (e .inner r (f .to)) (nn-cast turned (f .inner q (e .to)))
+          flat = nn-np (swung p q r) (e .inner r (f .to)) (nn-cast turned (f .inner q (e .to)))
 
       -- ---- sides
 
@@ -260,9 +248,6 @@ module _ (P : Points) (d : Point) where
           along = λ k kn z. along k kn (swung-turn p q k z) (ℕ-discrete k p) (ℕ-discrete k q);
         }
           where
-            nn-of : (z : ℤ) → (Neg z → ⊥) → NN z
-            nn-of z l = nn-cast (negℤ-negℤ z) (np-of (negℤ z) l)
-
             along : (k : ℕ) → k < n → turnAt P p q k ≡ pos 0 → Dec (k ≡ p) → Dec (k ≡ q) → NN (ahead p k) × NN (ahead k q)
             along k kn z (yes e) _ = (nn-zero (ap (ahead p) e ∙ ahead-self p), pos-nn (pos-cast (ap (λ (i : ℕ). ahead i q) (sym e)) h))
             along k kn z (no _) (yes e) = (pos-nn (pos-cast (ap (ahead p) (sym e)) h), nn-zero (ap (λ (i : ℕ). ahead i q) e ∙ ahead-self q))
@@ -275,11 +260,11 @@ module _ (P : Points) (d : Point) where
     other p q k = *ℤ-neg-l s (turnAt P p q k)
 
     pub not-both : (Collinear n P → ⊥) → (p q : ℕ) → Edge s n p q → Edge (negℤ s) n p q → ⊥
-    not-both bent p q e f = bent (line-through n P (P p) (P q) (λ z. pos-zero (e .onward) (away z)) (λ k kn. swung-turn s n sz p q k (both-ways (swung s p q k) (e .inner k kn) (nn-cast (other p q k) (f .inner k kn)))))
+    not-both bent p q e f = bent (line-through n P (P p) (P q) (λ z. pos-zero (e .onward) (away z)) (λ k kn. swung-turn s n sz p q k (nn-np (swung s p q k) (e .inner k kn) (nn-cast (other p q k) (f .inner k kn)))))
       where
         away : P q ≡ P p → ahead p q ≡ pos 0
         away z = ap (λ (r : Point). d .x *ℤ (r .x -ℤ P p .x) +ℤ d .y *ℤ (r .y -ℤ P p .y)) z ∙ ahead-self p
 
     pub not-through : (o p q : ℕ) → Edge (negℤ s) n o p → Edge s n p q → ⊥
     not-through o p q e f =
-        not-back o p (e .onward) (f .along o (e .from) (both-ways (swung s p q o) (f .inner o (e .from)) (nn-cast (other o p q ∙ ap (λ (z : ℤ). negℤ (s *ℤ z)) (turn-cycle (P o) (P p) (P q))) (e .inner q (f .to)))) .0)
+        not-back o p (e .onward) (f .along o (e .from) (nn-np (swung s p q o) (f .inner o (e .from)) (nn-cast (other o p q ∙ ap (λ (z : ℤ). negℤ (s *ℤ z)) (turn-cycle (P o) (P p) (P q))) (e .inner q (f .to)))) .0)

@@ -55,12 +55,15 @@ module _ (l : List ℤ) (s t : List ℕ) where
   -- the buffers were filled, or one of them has no room
   module _ {n : ℕ} (e : n ≡ refusalOf l) (z : n ≡ 0) {r : Bool} (p : r ≡ roomOf (southOf l) (northOf l) s t) {u v : List ℕ}
       (q : (u ≡ cond r (wrote s 0 (southOf l)) s) × (v ≡ cond r (wrote t 0 (northOf l)) t)) where
+    left-by : (b : Bool) → r ≡ b → (u ≡ cond b (wrote s 0 (southOf l)) s) × (v ≡ cond b (wrote t 0 (northOf l)) t)
+    left-by b h = (q .0 ∙ ap (λ (x : Bool). cond x (wrote s 0 (southOf l)) s) h, q .1 ∙ ap (λ (x : Bool). cond x (wrote t 0 (northOf l)) t) h)
+
     pub outlined-done : r ≡ true → {k : Lengths} → k ≡ lengthsOf l → record { answer = gives k; south = u; north = v } ≡ chainsOf l s t
     outlined-done h i =
-        (λ j. record { answer = gives (i j); south = (q .0 ∙ ap (λ (b : Bool). cond b (wrote s 0 (southOf l)) s) h) j; north = (q .1 ∙ ap (λ (b : Bool). cond b (wrote t 0 (northOf l)) t) h) j })
+        (λ j. record { answer = gives (i j); south = left-by true h .0 j; north = left-by true h .1 j })
         ∙ left (rule-kept l (roomsRule l s t) (lengthsOf l) e z refl (ap not (sym p ∙ h)) refl)
 
     pub outlined-short : r ≡ false → _≡_ {A = Outlining} (record { answer = refuses 11; south = u; north = v }) (chainsOf l s t)
     outlined-short h =
-        (λ j. record { answer = refuses 11; south = (q .0 ∙ ap (λ (b : Bool). cond b (wrote s 0 (southOf l)) s) h) j; north = (q .1 ∙ ap (λ (b : Bool). cond b (wrote t 0 (northOf l)) t) h) j })
+        (λ j. record { answer = refuses 11; south = left-by false h .0 j; north = left-by false h .1 j })
         ∙ left (rule-broken l (roomsRule l s t) (lengthsOf l) e z refl (ap not (sym p ∙ h)))

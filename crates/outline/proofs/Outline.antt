@@ -10,18 +10,18 @@
 use mathlib.Core.Path.{_≡_, refl, sym, _∙_, ap, subst}
 use mathlib.Core.Logic.{inl, inr, _↔_}
 use mathlib.Core.Bool.{true, false}
-use mathlib.Core.List.{List, [], _∷_, _++_}
+use mathlib.Core.List.{List, _++_}
 use Prim.Native.Nat.{ℕ, _+_, _-_, _≤_}
 use native.Mathlib.Omega.{arith}
-use lib.IntN.{ℤ, pos}
+use lib.IntN.{ℤ}
 use lib.ListN.{length, length-append}
 use Rattle.algebra.specs.Answer.{gives, Clear}
-use Rattle.algebra.specs.Sign.{minus, plus, value, NZ}
+use Rattle.algebra.specs.Sign.{minus, plus, value}
 use Rattle.algebra.proofs.ListLaws.{exactly-length}
-use Rattle.algebra.proofs.SignLaws.{pos-zero}
+use Rattle.algebra.proofs.SignLaws.{value-nz}
 use Rattle.matroid.specs.Borders.{Side}
 use Rattle.matroid.specs.Chains.{Neighbours, Chain, pairsOf, frontOf, backOf}
-use Rattle.matroid.proofs.ChainLaws.{wrapped-chain, chain-only, outline-sides, outline-corners, outline-three, pairs-length, front-length}
+use Rattle.matroid.proofs.ChainLaws.{wrapped-chain, chain-only, outline-sides, outline-corners, outline-three, pairs-many, front-many, back-many}
 use Rattle.shots.specs.Coordinates.{pointOf}
 use Rattle.shots.specs.Patch.{countOf}
 use Rattle.shots.specs.Tests.{refusalOf}
@@ -32,24 +32,8 @@ use Rattle.shots.proofs.Promises.{shots-kept}
 use Rattle.shots.proofs.Sides.{border-counts-sides}
 use Rattle.outline.specs.Wrapping.{firstOf, southOf, northOf}
 use Rattle.outline.specs.Lines.{Corners}
-use Rattle.outline.proofs.Orders.{onward, before-ahead, ahead-apart}
+use Rattle.shots.proofs.Orders.{onward, before-ahead, ahead-apart}
 use Rattle.outline.proofs.Wraps.{first-of-all, chain-wrapped}
-
--- how many a chain has but one, as pairs of neighbours and as shots
-pairs-many : (c : List ℕ) → length (pairsOf c) ≡ length c - 1
-pairs-many [] = refl
-pairs-many (p ∷ c) = omega (arith, pairs-length p c)
-
-front-many : (c : List ℕ) → length (frontOf c) ≡ length c - 1
-front-many [] = refl
-front-many (p ∷ c) = omega (arith, front-length p c)
-
-back-many : (c : List ℕ) → length (backOf c) ≡ length c - 1
-back-many [] = refl
-back-many (p ∷ c) = omega arith
-
-one : NZ (pos 1)
-one = pos-zero (record { by = 0; is = refl })
 
 module _ (l : List ℤ) where
   abbrev n : ℕ
@@ -90,21 +74,21 @@ module _ (l : List ℤ) where
     sides-once =
         let (c, is, w) = chain-wrapped l h false in
         let (c′, is′, w′) = chain-wrapped l h true in
-        subst (SidePairs l) (λ k. pairsOf (sym is k) ++ pairsOf (sym is′ k)) (outline-sides n (pointOf l) onward (ahead-apart l h) (patch-bent l h) (value plus) one (firstOf l) (first-of-all l h) c c′ w w′)
+        subst (SidePairs l) (λ k. pairsOf (sym is k) ++ pairsOf (sym is′ k)) (outline-sides n (pointOf l) onward (ahead-apart l h) (patch-bent l h) (value plus) (value-nz plus (inl refl)) (firstOf l) (first-of-all l h) c c′ w w′)
 
     pub corners-once : Corners l (frontOf (southOf l) ++ backOf (northOf l))
     unfolding value
     corners-once =
         let (c, is, w) = chain-wrapped l h false in
         let (c′, is′, w′) = chain-wrapped l h true in
-        subst (Corners l) (λ k. frontOf (sym is k) ++ backOf (sym is′ k)) (outline-corners n (pointOf l) onward (ahead-apart l h) (patch-bent l h) (value plus) one (firstOf l) (first-of-all l h) c c′ w w′)
+        subst (Corners l) (λ k. frontOf (sym is k) ++ backOf (sym is′ k)) (outline-corners n (pointOf l) onward (ahead-apart l h) (patch-bent l h) (value plus) (value-nz plus (inl refl)) (firstOf l) (first-of-all l h) c c′ w w′)
 
     pub corners-least : 3 ≤ (length (southOf l) - 1) + (length (northOf l) - 1)
     unfolding value
     corners-least =
         let (c, is, w) = chain-wrapped l h false in
         let (c′, is′, w′) = chain-wrapped l h true in
-        omega (arith, ap length is, ap length is′, outline-three n (pointOf l) onward (ahead-apart l h) (patch-bent l h) (value plus) one (firstOf l) (first-of-all l h) c c′ w w′)
+        omega (arith, ap length is, ap length is′, outline-three n (pointOf l) onward (ahead-apart l h) (patch-bent l h) (value plus) (value-nz plus (inl refl)) (firstOf l) (first-of-all l h) c c′ w w′)
 
   pub border-counts-chains : (v : ℕ) → (borderCallOf l ≡ gives v) ↔ (Clear (shotLines l) × ((length (southOf l) - 1) + (length (northOf l) - 1) ≡ v))
   border-counts-chains v = (

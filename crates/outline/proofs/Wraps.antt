@@ -8,29 +8,29 @@ use mathlib.Core.Path.{_≡_, refl, sym, _∙_, ap, subst}
 use mathlib.Core.Logic.{_⊎_, inl, inr, ⊎-elim}
 use mathlib.Core.Bool.{Bool, true, false, cond, _&&_, true≢false, false≢true}
 use mathlib.Core.List.{List, [], _∷_}
-use Prim.Native.Nat.{ℕ, zero, suc, _+_, _≤_, _<_}
+use Prim.Native.Nat.{ℕ, zero, suc, _≤_, _<_}
 use native.Mathlib.Omega.{arith}
 use native.Mathlib.Decide.{ℕ-discrete}
 use native.Mathlib.Nat.{not-suc-le-zero}
-use lib.IntN.{ℤ, pos, negsuc, negℤ, _*ℤ_, ℤ-discrete, negℤ-negℤ}
+use lib.IntN.{ℤ, pos, negℤ, _*ℤ_}
 use Rattle.algebra.specs.Answer.{Reflects}
 use Rattle.algebra.specs.Loops.{fold}
 use Rattle.algebra.specs.Sign.{Sign, minus, nought, plus, signOf, opposite, value, Pos, NN, NP, NZ}
 use Rattle.algebra.proofs.AnswerLaws.{reflects-iff, reflects-yes, reflects-no, reflects-true, reflects-false}
 use Rattle.algebra.proofs.IntLaws.{one-*ℤ, *ℤ-neg-l}
 use Rattle.algebra.proofs.LoopLaws.{last}
-use Rattle.algebra.proofs.SignLaws.{pos-cast, nn-cast, pos-nn, nn-zero, mul-zero, pos-add, pos-zero, neg-nn, pos-of-nn, np-of, dec-pos, pos-signOf, neg-signOf, zero-signOf, signOf-zero, signOf-opposite, plus-nought, minus-nought}
+use Rattle.algebra.proofs.SignLaws.{pos-cast, nn-cast, pos-nn, nn-zero, mul-zero, pos-add, pos-zero, neg-nn, pos-of-nn, np-of, pos-signOf, neg-signOf, zero-signOf, signOf-zero, signOf-opposite, plus-nought, minus-nought}
 use Rattle.matroid.proofs.Turns.{turn-first}
-use Rattle.matroid.proofs.Search.{cnt, cnt1, cnt-lt}
+use Rattle.matroid.proofs.Search.{cnt, cnt-lt, cnt-below}
 use Rattle.matroid.proofs.Wrapping.{ahead, ahead-back, ahead-add, swung, Best, best-none, best-passed, best-kept, best-taken, Edge, edge-first, edge-behind}
 use Rattle.matroid.proofs.ChainLaws.{FirstOf, Wrapped}
 use Rattle.shots.specs.Coordinates.{pointOf, areaOf}
-use Rattle.shots.specs.Patch.{countOf, orientOf}
+use Rattle.shots.specs.Patch.{countOf, orientOf, beforeOf}
 use Rattle.shots.specs.Tests.{refusalOf}
 use Rattle.shots.proofs.Patch.{patch-few}
-use Rattle.outline.specs.Wrapping.{beforeOf, firstOf, outsideOf, passesOf, nextOf, chainFrom, chainOf}
+use Rattle.outline.specs.Wrapping.{firstOf, outsideOf, passesOf, nextOf, chainFrom, chainOf}
 use Rattle.outline.proofs.ChainSteps.{chain-at-last, chain-goes-on}
-use Rattle.outline.proofs.Orders.{onward, before-ahead, ahead-apart, before-decided}
+use Rattle.shots.proofs.Orders.{onward, before-ahead, ahead-apart, before-decided}
 
 abbrev pub sideOf : Bool → Sign
 sideOf false = plus
@@ -137,14 +137,11 @@ module _ (l : List ℤ) (h : refusalOf l ≡ 0) where
     abbrev after : ℕ → ℕ → ℤ
     after p k = cond (beforeOf l p k) (pos 1) (pos 0)
 
-    one-zero : _≡_ {A = ℤ} (pos 1) (pos 0) → ⊥
-    one-zero = pos-zero (record { by = 0; is = refl })
-
     after-none : (p k : ℕ) → (Pos (way p k) → ⊥) → after p k ≡ pos 0
     after-none p k f = ap (λ (t : Bool). cond t (pos 1) (pos 0)) (reflects-false (before-says p k) f)
 
     after-some : (p k : ℕ) → Pos (way p k) → NZ (after p k)
-    after-some p k f z = one-zero (ap (λ (t : Bool). cond t (pos 1) (pos 0)) (sym (reflects-true (before-says p k) f)) ∙ z)
+    after-some p k f z = pos-zero (record { by = 0; is = refl }) (ap (λ (t : Bool). cond t (pos 1) (pos 0)) (sym (reflects-true (before-says p k) f)) ∙ z)
 
     not-self : (p : ℕ) → Pos (way p p) → ⊥
     not-self p f = neg-nn (pos-cast (sym (ahead-back (pointOf l) onward p p)) f) (pos-nn f)
@@ -152,17 +149,6 @@ module _ (l : List ℤ) (h : refusalOf l ≡ 0) where
     fewer : (p q : ℕ) → q < n → Pos (way p q) → cnt n (after q) < cnt n (after p)
     fewer p q qn f = cnt-lt n q (after q) (after p)
         (λ k kn z. after-none q k (λ g. after-some p k (pos-cast (ahead-add (pointOf l) onward p q k) (pos-add f g)) z)) qn (after-none q q (not-self q)) (after-some p q f)
-
-    cnt-all : (m : ℕ) → cnt m (λ _. pos 1) ≡ m
-    cnt-all zero = refl
-    cnt-all (suc m) = go (ℤ-discrete (pos 1) (pos 0)) (cnt-all m)
-      where
-        go : (e : Dec (_≡_ {A = ℤ} (pos 1) (pos 0))) → cnt m (λ _. pos 1) ≡ m → cnt m (λ _. pos 1) + cnt1 e ≡ suc m
-        go (yes e) i = absurd (one-zero e)
-        go (no _) i = omega arith
-
-    not-all : (p : ℕ) → p < n → cnt n (after p) < n
-    not-all p pn = omega (arith, cnt-all n, cnt-lt n p (after p) (λ _. pos 1) (λ k kn z. absurd (one-zero z)) pn (after-none p p (not-self p)) one-zero)
 
     -- p, and what is behind it, with an edge to it
     abbrev Chained : ℕ → ℕ → Type 0
@@ -190,4 +176,4 @@ module _ (l : List ℤ) (h : refusalOf l ≡ 0) where
     pub chain-wrapped : (c : List ℕ) × (chainOf l b ≡ firstOf l ∷ c) × Wrapped n (pointOf l) onward (ahead-apart l h) s (firstOf l) c
     unfolding chainOf
     chain-wrapped = let (pn, first) = first-of-all in
-        wraps n (firstOf l) pn (λ q qn f. edge-first (pointOf l) onward s n (firstOf l) q pn qn first f) (not-all (firstOf l) pn)
+        wraps n (firstOf l) pn (λ q qn f. edge-first (pointOf l) onward s n (firstOf l) q pn qn first f) (cnt-below n (firstOf l) (after (firstOf l)) pn (after-none (firstOf l) (firstOf l) (not-self (firstOf l))))

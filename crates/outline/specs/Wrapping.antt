@@ -1,7 +1,6 @@
 -- The two chains of a patch, as they are found: from the first shot on, each time the shot that no other one ahead is outside of, as a string is wrapped around posts.
 -- b is true for the north chain and false for the south chain.
 --
---   beforeOf l i j        shot i is left of shot j, or below it on an upright line
 --   firstOf l             the leftmost shot, the lowest of equals
 --   outsideOf b f s       what has the sign s is outside of two neighbours: on the right of the south chain, on the left of the north chain; on their line where f says that it is farther
 --   passesOf l b p q k    shot k comes behind p rather than q: it is ahead of p, and outside of p and q
@@ -16,14 +15,9 @@ use mathlib.Core.List.{List, [], _∷_}
 use Prim.Native.Nat.{ℕ, zero, suc}
 use lib.Dec.{eqb}
 use lib.IntN.{ℤ}
-use lib.Signed.{ltZ}
 use Rattle.algebra.specs.Loops.{fold}
-use Rattle.algebra.specs.Sign.{Sign, minus, nought, plus, eqZ}
-use Rattle.shots.specs.Coordinates.{xOf, yOf}
-use Rattle.shots.specs.Patch.{countOf, orientOf}
-
-unfoldable pub beforeOf : List ℤ → ℕ → ℕ → Bool
-beforeOf l i j = cond (eqZ (xOf l i) (xOf l j)) (ltZ (yOf l i) (yOf l j)) (ltZ (xOf l i) (xOf l j))
+use Rattle.algebra.specs.Sign.{Sign, minus, nought, plus}
+use Rattle.shots.specs.Patch.{countOf, orientOf, beforeOf}
 
 unfoldable pub firstOf : List ℤ → ℕ
 firstOf l = fold (λ k q. cond (beforeOf l k q) k q) 0 (countOf l)

@@ -1,41 +1,20 @@
 // The chains of an accepted patch: from the first shot on, each time the shot that no other one ahead is outside of.
 ghost use mathlib.Core.Path.{_≡_};
 ghost use Prim.Native.Nat.{_≤_, _<_};
-ghost use lib.ListN.{length, getD, replicate};
-ghost use lib.IntN.{pos};
-ghost use lib.Signed.{ltZ};
+ghost use lib.ListN.{length, replicate};
 ghost use Rattle.algebra.specs.Writing.{wrote};
 ghost use Rattle.shots.specs.Sizes.{shotsMost};
 ghost use Rattle.shots.specs.Patch.{countOf};
 ghost use Rattle.shots.specs.Tests.{Near};
-ghost use Rattle.outline.specs.Wrapping.{beforeOf, firstOf, passesOf, nextOf, chainOf};
+ghost use Rattle.outline.specs.Wrapping.{firstOf, passesOf, nextOf, chainOf};
 use shots::SHOTS_MOST;
+use shots::pairs;
 use shots::plane;
-use shots::tests;
 
 // The first `count` of `at` are the shots of a chain.
 pub struct Corners {
     pub at: [u8; SHOTS_MOST],
     pub count: usize,
-}
-
-// Whether the coordinate at one place of the run is less than the one at another.
-fn less(shots: &[i32], i: usize, j: usize) -> bool
-    requires { ⌜ (i < length (now shots)) × (j < length (now shots)) ⌝ }
-    ensures { λ r. ⌜ r ≡ ltZ (getD (now (shots .entry)) i (pos 0)) (getD (now (shots .entry)) j (pos 0)) ⌝ }
-{
-    shots[i] < shots[j]
-}
-
-// Whether shot i is left of shot j, or below it on an upright line.
-fn precedes(shots: &[i32], i: usize, j: usize) -> bool
-    requires { ⌜ (i < countOf (now shots)) × (j < countOf (now shots)) ⌝ }
-    ensures { λ r. ⌜ r ≡ beforeOf (now (shots .entry)) i j ⌝ }
-{
-    if tests::same(shots, 2 * i, 2 * j) {
-        return less(shots, 2 * i + 1, 2 * j + 1);
-    }
-    less(shots, 2 * i, 2 * j)
 }
 
 // The leftmost shot, the lowest of equals.
@@ -47,7 +26,7 @@ fn first(shots: &[i32]) -> usize
     let mut best = 0;
     let mut k = 0;
     while k < n {
-        if precedes(shots, k, best) {
+        if pairs::precedes(shots, k, best) {
             best = k;
         }
         k += 1;
@@ -60,10 +39,10 @@ fn passes(shots: &[i32], north: bool, p: usize, q: usize, k: usize) -> bool
     requires { ⌜ (p < countOf (now shots)) × (q < countOf (now shots)) × (k < countOf (now shots)) × Near (now shots) ⌝ }
     ensures { λ r. ⌜ r ≡ passesOf (now (shots .entry)) north p q k ⌝ }
 {
-    if precedes(shots, p, k) {
+    if pairs::precedes(shots, p, k) {
         let sign = plane::sign(shots, p, q, k);
         if sign == 0 {
-            return precedes(shots, q, k);
+            return pairs::precedes(shots, q, k);
         }
         if sign == 1 {
             return north;

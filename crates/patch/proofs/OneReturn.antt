@@ -1,9 +1,9 @@
 -- Two ends of a call for C that its contract permits are the same: the number, and all that stands at the lent places. For every input.
 --
---   ends-1, ends-2, ends-3    what one, two or three equations with the same right sides determine; a contract for C has no other parts
+--   ends-1, ends-2, ends-3, ends-5    what one, two, three or five equations with the same right sides determine; a contract for C has no other parts
 --   left-one            the same of what a call of the walk leaves: its number, the record and the whole table
---   patch-accept-one, patch-orientation-one, patch-double-area-one, patch-cocircuit-one, patch-border-one, patch-circuits-one, patch-circuit-one, patch-test-one, patch-placing-one, patch-flip-one, patch-start-one, patch-step-one, patch-run-one,
---   patch-read-patch-one, patch-write-patch-one, patch-read-surface-one, patch-write-surface-one    the seventeen calls, each with the equations of its contract: r and r′ are returned, u and u′ left
+--   patch-accept-one, patch-orientation-one, patch-double-area-one, patch-cocircuit-one, patch-border-one, patch-chains-one, patch-circuits-one, patch-circuit-one, patch-test-one, patch-placing-one, patch-flip-one, patch-start-one, patch-step-one, patch-run-one,
+--   patch-read-patch-one, patch-write-patch-one, patch-read-surface-one, patch-write-surface-one    the eighteen calls, each with the equations of its contract: r and r′ are returned, u and u′ left
 --
 -- The calls of the rooms have theirs in their own Promises.
 use mathlib.Core.Path.{_≡_, sym, _∙_, ap}
@@ -11,13 +11,14 @@ use mathlib.Core.List.{List}
 use Prim.Native.Nat.{ℕ}
 use lib.IntN.{ℤ}
 use Rattle.shots.specs.Calls.{acceptOf, orientationOf, doubleAreaOf, cocircuitOf, borderCallOf}
+use Rattle.outline.specs.Calls.{chainsOf}
 use Rattle.circuits.specs.Calls.{countCallOf, circuitCallOf}
 use Rattle.lists.specs.Calls.{testOf}
 use Rattle.surfaces.specs.Calls.{placingOf, flipOf}
 use Rattle.records.specs.Calls.{readPatchOf, readSurfaceOf, writePatchOf, writeSurfaceOf}
 use Rattle.walks.specs.Calls.{walkAs, stepCallOf, runCallOf}
 use Rattle.walks.specs.declared.Walk.{Walk}
-use Rattle.patch.specs.Returns.{numberOf, leftAt, besideAt, plusAt, minusAt, doneAt, Left, leftBy, leftOf, startCalled}
+use Rattle.patch.specs.Returns.{numberOf, leftAt, besideAt, southAt, northAt, plusAt, minusAt, doneAt, Left, leftBy, leftOf, startCalled}
 
 -- ---- the law
 
@@ -29,6 +30,10 @@ ends-2 p q = (ends-1 (p .0) (q .0), ends-1 (p .1) (q .1))
 
 pub ends-3 : {A B C : Type 0} {r r′ x : A} {u u′ y : B} {v v′ z : C} → (r ≡ x) × (u ≡ y) × (v ≡ z) → (r′ ≡ x) × (u′ ≡ y) × (v′ ≡ z) → (r ≡ r′) × (u ≡ u′) × (v ≡ v′)
 ends-3 p q = (ends-1 (p .0) (q .0), ends-1 (p .1) (q .1), ends-1 (p .2) (q .2))
+
+pub ends-5 : {A B C D E : Type 0} {r r′ x : A} {u u′ y : B} {v v′ z : C} {w w′ a : D} {s s′ b : E} → (r ≡ x) × (u ≡ y) × (v ≡ z) × (w ≡ a) × (s ≡ b) → (r′ ≡ x) × (u′ ≡ y) × (v′ ≡ z) × (w′ ≡ a) × (s′ ≡ b)
+    → (r ≡ r′) × (u ≡ u′) × (v ≡ v′) × (w ≡ w′) × (s ≡ s′)
+ends-5 p q = (ends-1 (p .0) (q .0), ends-1 (p .1) (q .1), ends-1 (p .2) (q .2), ends-1 (p .3) (q .3), ends-1 (p .4) (q .4))
 
 pub left-one : {x : Left} {r r′ : ℕ} {v v′ : Walk} {u u′ : List ℕ} → leftBy r v u ≡ x → leftBy r′ v′ u′ ≡ x → (r ≡ r′) × (v ≡ v′) × (u ≡ u′)
 left-one p q = let e = ends-1 p q in (ap (λ (y : Left). y .number) e, ap (λ (y : Left). walkAs (y .walk)) e, ap (λ (y : Left). y .table) e)
@@ -54,6 +59,12 @@ module _ (l : List ℤ) where
 
   pub patch-border-one : (s : ℕ) {r r′ u u′ : ℕ} → (r ≡ numberOf (borderCallOf l)) × (u ≡ leftAt s (borderCallOf l)) → (r′ ≡ numberOf (borderCallOf l)) × (u′ ≡ leftAt s (borderCallOf l)) → (r ≡ r′) × (u ≡ u′)
   patch-border-one s = ends-2
+
+  pub patch-chains-one : (s t : List ℕ) (j k : ℕ) {r r′ w w′ x x′ : ℕ} {u u′ v v′ : List ℕ}
+      → (r ≡ numberOf (chainsOf l s t .answer)) × (u ≡ chainsOf l s t .south) × (v ≡ chainsOf l s t .north) × (w ≡ southAt j (chainsOf l s t .answer)) × (x ≡ northAt k (chainsOf l s t .answer))
+      → (r′ ≡ numberOf (chainsOf l s t .answer)) × (u′ ≡ chainsOf l s t .south) × (v′ ≡ chainsOf l s t .north) × (w′ ≡ southAt j (chainsOf l s t .answer)) × (x′ ≡ northAt k (chainsOf l s t .answer))
+      → (r ≡ r′) × (u ≡ u′) × (v ≡ v′) × (w ≡ w′) × (x ≡ x′)
+  patch-chains-one s t j k = ends-5
 
   pub patch-circuits-one : (s : ℕ) {r r′ u u′ : ℕ} → (r ≡ numberOf (countCallOf l)) × (u ≡ leftAt s (countCallOf l)) → (r′ ≡ numberOf (countCallOf l)) × (u′ ≡ leftAt s (countCallOf l)) → (r ≡ r′) × (u ≡ u′)
   patch-circuits-one s = ends-2

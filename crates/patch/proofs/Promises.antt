@@ -3,8 +3,8 @@
 --   chain-apart       a chain whose rules have numbers that are not 0 is apart: its answer is no refusal by the number 0
 --   ground-step-apart, ground-run-apart    so are a step and a run, over any ground whose first rules have such numbers and whose flip is apart
 --   ground-start-apart                     so is a start, where the test of its list is apart
---   accept-apart, orientation-apart, double-area-apart, cocircuit-apart, border-apart, count-apart, circuit-apart, test-apart, placing-apart, flip-apart,
---   start-apart, step-apart, run-apart, read-patch-apart, write-patch-apart, read-surface-apart, write-surface-apart    so are the seventeen calls
+--   accept-apart, orientation-apart, double-area-apart, cocircuit-apart, border-apart, chains-apart, count-apart, circuit-apart, test-apart, placing-apart, flip-apart,
+--   start-apart, step-apart, run-apart, read-patch-apart, write-patch-apart, read-surface-apart, write-surface-apart    so are the eighteen calls
 --
 -- Source: document 01, "Refusal numbers".
 use mathlib.Core.Path.{_≡_, refl, sym}
@@ -24,6 +24,7 @@ use Rattle.shots.specs.Patch.{countOf}
 use Rattle.shots.specs.Tests.{shotRules, placeRules}
 use Rattle.shots.specs.Calls.{acceptOf, shotsRule, orientationOf, doubleAreaOf, pairRule, cocircuitOf, borderCallOf}
 use Rattle.shots.proofs.Chains.{shots-numbered}
+use Rattle.outline.specs.Calls.{roomsRule, chainsOf}
 use Rattle.circuits.specs.Calls.{countCallOf, circuitRule, circuitCallOf}
 use Rattle.lists.specs.Tests.{listRules}
 use Rattle.lists.specs.Calls.{testOf}
@@ -143,6 +144,10 @@ module _ (l : List ℤ) where
   pub border-apart : Apart (borderCallOf l)
   unfolding borderCallOf
   border-apart = shots-apart l [] _ tt
+
+  pub chains-apart : (s t : List ℕ) → Apart (chainsOf l s t .answer)
+  unfolding chainsOf
+  chains-apart s t = shots-apart l (roomsRule l s t ∷ []) _ (omega arith, tt)
 
   pub count-apart : Apart (countCallOf l)
   unfolding countCallOf

@@ -4,7 +4,8 @@
 --   Apart a              0 is returned only where the call gives something: a is no refusal by the number 0
 --   leftAt x a           what stands at a lent place that held x: what the call gives, and x where it is refused
 --   besideAt x a y       the same of what a call gives beside its answer a: y, and x where it is refused
---   plusAt, minusAt x a  the same of the two sides of a circuit, each at a place of its own
+--   southAt, northAt     the same of the lengths of two chains, each at a place of its own
+--   plusAt, minusAt      the same of the two sides of a circuit
 --   doneAt d a           the lent flag, that held d: 1 where the walk is done, 0 where a step or run was made
 --   Left                 what a walk's call leaves with its number: the record and the whole table
 --   leftBy, leftOf       the same, from a number and the lent places; from what the walk's definition lands in
@@ -17,6 +18,7 @@ use Prim.Native.Nat.{ℕ}
 use lib.IntN.{ℤ}
 use Rattle.algebra.specs.Answer.{Answer, gives, refuses}
 use Rattle.reach.specs.Walks.{WalkRecord, Begun, Reply, made, done, Landing, startOf}
+use Rattle.outline.specs.declared.Lengths.{Lengths}
 use Rattle.circuits.specs.declared.Sides.{Sides}
 use Rattle.walks.specs.Calls.{groundOf, readWalk}
 use Rattle.walks.specs.declared.Walk.{Walk}
@@ -35,6 +37,14 @@ leftAt x (refuses n) = x
 abbrev pub besideAt : {A B : Type 0} → B → Answer A → B → B
 besideAt x (gives v) y = y
 besideAt x (refuses n) y = x
+
+abbrev pub southAt : ℕ → Answer Lengths → ℕ
+southAt x (gives k) = k .south
+southAt x (refuses n) = x
+
+abbrev pub northAt : ℕ → Answer Lengths → ℕ
+northAt x (gives k) = k .north
+northAt x (refuses n) = x
 
 abbrev pub plusAt : ℕ → Answer Sides → ℕ
 plusAt x (gives z) = z .plus

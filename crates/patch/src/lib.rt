@@ -7,6 +7,7 @@
 //   patch_double_area      its size                                          1-4, 7
 //   patch_cocircuit        its sign, for a pair with every shot              1-4, 7
 //   patch_border           the number of sides                               1-4
+//   patch_chains           the corners, as a south and a north chain         1-4, 11
 //   patch_circuits         C, the number of circuits                         1-4
 //   patch_circuit          the two sides of circuit z                        1-4, 12
 //   patch_test             is the list a triangulation?                      1-4, 7 10 8 9
@@ -22,14 +23,16 @@
 // Every call takes every input. Its contract is an equation with the definition of the room's call; specs/Returns.antt says how an answer becomes a number and what is left.
 ghost use mathlib.Core.Path.{_≡_};
 ghost use Rattle.shots.specs.Calls.{acceptOf, orientationOf, doubleAreaOf, cocircuitOf, borderCallOf};
+ghost use Rattle.outline.specs.Calls.{chainsOf};
 ghost use Rattle.circuits.specs.Calls.{countCallOf, circuitCallOf};
 ghost use Rattle.lists.specs.Calls.{testOf};
 ghost use Rattle.surfaces.specs.Calls.{placingOf, flipOf};
 ghost use Rattle.walks.specs.Calls.{stepCallOf, runCallOf};
 ghost use Rattle.records.specs.Calls.{readPatchOf, writePatchOf, readSurfaceOf, writeSurfaceOf};
-ghost use Rattle.patch.specs.Returns.{numberOf, leftAt, besideAt, plusAt, minusAt, doneAt, leftBy, leftOf, startCalled};
+ghost use Rattle.patch.specs.Returns.{numberOf, leftAt, besideAt, southAt, northAt, plusAt, minusAt, doneAt, leftBy, leftOf, startCalled};
 use circuits::Split;
 use lists::Tested;
+use outline::Outlined;
 use records::COORDINATES_MOST;
 use records::Patched;
 use records::Written;
@@ -123,6 +126,28 @@ pub extern "C" fn patch_border(shots: &[i32], count: &mut usize) -> u8
         shots::Counted::Refused(number) => number,
         shots::Counted::Count(pairs) => {
             *count = pairs;
+            0
+        }
+    }
+}
+
+// ---- outline
+
+#[no_mangle]
+pub extern "C" fn patch_chains(
+    shots: &[i32],
+    south: &mut [u8],
+    north: &mut [u8],
+    south_length: &mut usize,
+    north_length: &mut usize,
+) -> u8
+    ensures { λ r. ⌜ (r ≡ numberOf (chainsOf (now (shots .entry)) (now (south .entry)) (now (north .entry)) .answer)) × (now (south .exit) ≡ chainsOf (now (shots .entry)) (now (south .entry)) (now (north .entry)) .south) × (now (north .exit) ≡ chainsOf (now (shots .entry)) (now (south .entry)) (now (north .entry)) .north) × (now («south_length» .exit) ≡ southAt (now («south_length» .entry)) (chainsOf (now (shots .entry)) (now (south .entry)) (now (north .entry)) .answer)) × (now («north_length» .exit) ≡ northAt (now («north_length» .entry)) (chainsOf (now (shots .entry)) (now (south .entry)) (now (north .entry)) .answer)) ⌝ }
+{
+    match outline::chains(shots, south, north) {
+        Outlined::Refused(number) => number,
+        Outlined::Chains(lengths) => {
+            *south_length = lengths.south;
+            *north_length = lengths.north;
             0
         }
     }

@@ -6,3 +6,4 @@ pub mod Orientations
 pub mod Borders
 pub mod Sides
 pub mod Promises
+pub mod Orders

@@ -9,13 +9,13 @@ use mathlib.Core.Bool.{Bool, true, false, cond}
 use mathlib.Core.List.{List, [], _∷_, List·Memᴰ, List·Memᴰ·head, List·Memᴰ·not-nil, List·Memᴰ·eq-of-singleton}
 use Prim.Native.Nat.{ℕ, _+_, _<_}
 use native.Mathlib.Omega.{arith}
-use lib.ListN.{length, getD}
+use lib.ListN.{length}
 use lib.IntN.{ℤ}
 use Rattle.algebra.specs.Answer.{Reflects, gives, Clear}
 use Rattle.algebra.specs.Loops.{tally, over}
 use Rattle.algebra.specs.Sign.{nought}
 use Rattle.algebra.proofs.AnswerLaws.{reflects-iff, reflects-yes, reflects-true, reflects-stable, reflects-not, reflects-and, reflects-eqb, is-nought}
-use Rattle.algebra.proofs.ListLaws.{Apart, Other, exactly-apart, exactly-length, kept, kept-in, kept-out, kept-apart}
+use Rattle.algebra.proofs.ListLaws.{two-parts, Apart, Other, exactly-apart, exactly-length, kept, kept-in, kept-out, kept-apart}
 use Rattle.algebra.proofs.LoopLaws.{reflects-any, reflects-test}
 use Rattle.algebra.proofs.OverLaws.{over-in, over-out, over-apart, over-sized}
 use Rattle.algebra.proofs.SignLaws.{signOf-zero, zero-signOf}
@@ -88,9 +88,6 @@ module _ (l : List ℤ) where
       let (p, t) = kept-out (λ _. sidePairOf l i j) e ((i ∷ j ∷ []) ∷ []) k in
       (i, List·Memᴰ·eq-of-singleton p, h, t)
 
-  two : {i j i′ j′ : ℕ} → _≡_ {A = List ℕ} (i ∷ j ∷ []) (i′ ∷ j′ ∷ []) → (i ≡ i′) × (j ≡ j′)
-  two e = (ap (λ (s : List ℕ). getD s 0 0) e, ap (λ (s : List ℕ). getD s 1 0) e)
-
   less : {i j : ℕ} → i < j → i ≡ j → ⊥
   less h e = omega arith
 
@@ -98,14 +95,14 @@ module _ (l : List ℤ) where
   unfolding with one
   with-apart j =
       over-apart (one j) Other 0 j (λ i _ _. kept-apart (λ _. sidePairOf l i j) ((i ∷ j ∷ []) ∷ []) (λ y m. absurd (List·Memᴰ·not-nil m), tt))
-      (λ i i′ _ h _ x y m m′ e. less h (two (sym (is i x m) ∙ e ∙ is i′ y m′) .0))
+      (λ i i′ _ h _ x y m m′ e. less h (two-parts (sym (is i x m) ∙ e ∙ is i′ y m′) .0))
     where
       is : (i : ℕ) (x : List ℕ) → List·Memᴰ x (one j i) → x ≡ i ∷ j ∷ []
       is i x m = List·Memᴰ·eq-of-singleton (kept-out (λ _. sidePairOf l i j) x ((i ∷ j ∷ []) ∷ []) m .0)
 
   pairs-apart : Apart Other pairs
   unfolding pairs
-  pairs-apart = over-apart with Other 0 n (λ j _ _. with-apart j) (λ j j′ _ h _ x y m m′ e. less h (two (sym (with-out j m .1) ∙ e ∙ with-out j′ m′ .1) .1))
+  pairs-apart = over-apart with Other 0 n (λ j _ _. with-apart j) (λ j j′ _ h _ x y m m′ e. less h (two-parts (sym (with-out j m .1) ∙ e ∙ with-out j′ m′ .1) .1))
 
   pairs-count : length pairs ≡ tally n (sidesOf l)
   unfolding pairs with one sidesOf tally

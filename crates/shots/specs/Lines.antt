@@ -20,7 +20,7 @@ use lib.IntN.{ℤ, pos, natAbs}
 use Rattle.algebra.specs.Answer.{Line}
 use Rattle.algebra.specs.Sets.{Exactly}
 use Rattle.matroid.specs.Points.{Collinear}
-use Rattle.matroid.specs.Borders.{Side}
+use Rattle.matroid.specs.Borders.{SidePair}
 use Rattle.shots.specs.Sizes.{shotsLeast, shotsMost, farthest}
 use Rattle.shots.specs.Coordinates.{pointOf}
 use Rattle.shots.specs.Patch.{countOf}
@@ -60,4 +60,4 @@ abbrev pub cocircuitLines : List ℤ → ℕ → ℕ → List Line
 cocircuitLines l i j = shotLines l ++ record { number = 7; when = NotPair l i j } ∷ []
 
 abbrev pub SidePairs : List ℤ → List (List ℕ) → Type 0
-SidePairs l = Exactly [] (λ (e : List ℕ). (i : ℕ) × (j : ℕ) × (e ≡ i ∷ j ∷ []) × (i < j) × (j < countOf l) × Side (countOf l) (pointOf l) i j)
+SidePairs l = Exactly [] (SidePair (countOf l) (pointOf l))

@@ -1,13 +1,17 @@
-// Pairs of shots that are known to be there and near: their cocircuits, and which of them are border pairs and sides.
+// Pairs of shots that are known to be there and near: their cocircuits, which of them are border pairs and sides, and which of two is before the other.
 ghost use mathlib.Core.Path.{_≡_};
 ghost use Prim.Native.Nat.{_≤_, _<_};
+ghost use lib.ListN.{length, getD};
+ghost use lib.IntN.{pos};
+ghost use lib.Signed.{ltZ};
 ghost use Rattle.algebra.specs.Loops.{tabulate, tally};
 ghost use Rattle.shots.specs.Sizes.{shotsMost};
-ghost use Rattle.shots.specs.Patch.{countOf, someLeft, borderOf, outsideAt, someOutside, sidePairOf};
+ghost use Rattle.shots.specs.Patch.{countOf, someLeft, borderOf, outsideAt, someOutside, sidePairOf, beforeOf};
 ghost use Rattle.shots.specs.Tests.{Near};
 ghost use Rattle.shots.specs.Calls.{signAt, sidesOf};
 use super::SHOTS_MOST;
 use super::plane;
+use super::tests;
 
 // The sign of place k in the cocircuit of i, j: 0 past the shots.
 fn sign_at(shots: &[i32], i: usize, j: usize, k: usize) -> i8
@@ -130,4 +134,23 @@ pub fn side_count(shots: &[i32]) -> usize
         j += 1;
     }
     count
+}
+
+// Whether the coordinate at one place of the run is less than the one at another.
+fn less(shots: &[i32], i: usize, j: usize) -> bool
+    requires { ⌜ (i < length (now shots)) × (j < length (now shots)) ⌝ }
+    ensures { λ r. ⌜ r ≡ ltZ (getD (now (shots .entry)) i (pos 0)) (getD (now (shots .entry)) j (pos 0)) ⌝ }
+{
+    shots[i] < shots[j]
+}
+
+// Whether shot i is left of shot j, or below it on an upright line.
+pub fn precedes(shots: &[i32], i: usize, j: usize) -> bool
+    requires { ⌜ (i < countOf (now shots)) × (j < countOf (now shots)) ⌝ }
+    ensures { λ r. ⌜ r ≡ beforeOf (now (shots .entry)) i j ⌝ }
+{
+    if tests::same(shots, 2 * i, 2 * j) {
+        return less(shots, 2 * i + 1, 2 * j + 1);
+    }
+    less(shots, 2 * i, 2 * j)
 }

@@ -1,5 +1,5 @@
 -- `outline::wrapping::first` meets its contract: the first so far, shot by shot.
-use mathlib.Core.Path.{_≡_, refl, sym, _∙_}
+use mathlib.Core.Path.{_≡_, sym, _∙_}
 use mathlib.Core.Bool.{cond}
 use mathlib.Core.Logic.{⊎-elim}
 use Prim.Native.Nat.{_-_, _≤_, _<_}
@@ -7,7 +7,8 @@ use native.Mathlib.Omega.{arith}
 use borrow.Author.Needs.{needs}
 use Rattle.algebra.specs.Loops.{fold}
 use Rattle.algebra.proofs.LoopLaws.{fold-none, fold-more, fold-end}
-use Rattle.outline.specs.Wrapping.{beforeOf, firstOf}
+use Rattle.shots.specs.Patch.{beforeOf}
+use Rattle.outline.specs.Wrapping.{firstOf}
 use Rattle.outline.proofs.wrapping.first.Statement.{statement}
 use Rattle.outline.proofs.wrapping.first.Tie as tie
 

@@ -8,8 +8,8 @@ use borrow.Author.Tests.{eq-eqb, ne-eqb}
 use lib.IntN.{ℤ}
 use Rattle.algebra.specs.Sign.{Sign, minus, nought, plus, isNought, isPlus}
 use Rattle.algebra.proofs.SizeLaws.{sign-is-plus, sign-is-nought}
-use Rattle.shots.specs.Patch.{orientOf}
-use Rattle.outline.specs.Wrapping.{beforeOf, outsideOf, passesOf}
+use Rattle.shots.specs.Patch.{orientOf, beforeOf}
+use Rattle.outline.specs.Wrapping.{outsideOf, passesOf}
 use Rattle.outline.proofs.wrapping.passes.Statement.{statement}
 use Rattle.outline.proofs.wrapping.passes.Tie as tie
 

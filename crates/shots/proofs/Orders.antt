@@ -9,35 +9,28 @@ use mathlib.Core.Logic.{_⊎_, inl, inr, ⊎-elim, _↔_}
 use mathlib.Core.Bool.{Bool, true, false, cond}
 use mathlib.Core.HLevel.{dec→stable}
 use mathlib.Core.List.{List, [], _∷_}
-use Prim.Native.Nat.{ℕ, zero, suc, _+_, _-_, _*_, _≤_, _<_}
+use Prim.Native.Nat.{ℕ, suc, _+_, _-_, _*_, _≤_, _<_}
 use native.Mathlib.Omega.{arith}
 use native.Mathlib.Numerals.{add-one}
 use native.Mathlib.Decide.{ℕ-discrete}
-use borrow.Author.Tests.{le-ltb}
-use lib.IntN.{ℤ, pos, negsuc, natAbs, negℤ, _+ℤ_, _-ℤ_, _*ℤ_, +ℤ-invr}
+use lib.IntN.{ℤ, pos, natAbs, negℤ, _+ℤ_, _-ℤ_, _*ℤ_, +ℤ-invr}
 use lib.Signed.{ltZ}
 use Rattle.algebra.specs.Answer.{Reflects, holds, fails}
 use Rattle.algebra.specs.Sign.{Pos, NN, Neg, Tri, below, at-nought, above, eqZ}
 use Rattle.algebra.proofs.AnswerLaws.{reflects-iff, reflects-eqZ, reflects-ltZ}
-use Rattle.algebra.proofs.Ring.{cst, var, _⊕_, _⊝_, _⊗_, neg, ring, sub-zero→eq}
+use Rattle.algebra.proofs.Ring.{cst, var, _⊕_, _⊗_, neg, ring, sub-zero→eq}
 use Rattle.algebra.proofs.SignLaws.{tri, pos-cast, pos-nn, pos-nn-add, nn-mul, nn-add, pos-zero, neg-nn}
-use Rattle.algebra.proofs.SizeLaws.{natAbs-neg}
+use Rattle.algebra.proofs.SizeLaws.{natAbs-neg, size-nn}
 use Rattle.matroid.specs.Points.{Point}
 use Rattle.matroid.specs.Chains.{Before}
 use Rattle.matroid.proofs.Turns.{point-path}
 use Rattle.matroid.proofs.Wrapping.{ahead}
 use Rattle.shots.specs.Sizes.{farthest}
 use Rattle.shots.specs.Coordinates.{xOf, yOf, pointOf}
-use Rattle.shots.specs.Patch.{countOf}
+use Rattle.shots.specs.Patch.{countOf, beforeOf}
 use Rattle.shots.specs.Tests.{refusalOf}
 use Rattle.shots.proofs.Bounds.{near-gap}
 use Rattle.shots.proofs.Patch.{patch-near, patch-differ}
-use Rattle.outline.specs.Wrapping.{beforeOf}
-
--- a number and its bound
-size-nn : (y : ℤ) (m : ℕ) → natAbs y ≤ m → NN (y +ℤ pos m)
-size-nn (pos k) m h = record { by = k + m; is = refl }
-size-nn (negsuc k) m h = record { by = m - suc k; is = ap (λ (t : Bool). cond t (negsuc (suc k - suc m)) (pos (m - suc k))) (le-ltb m (suc k) h) }
 
 -- one step to the side, and at most m down
 lead : (x y : ℤ) (m : ℕ) → natAbs y ≤ m → Pos x → Pos (pos (suc m) *ℤ x +ℤ pos 1 *ℤ y)

@@ -1,10 +1,10 @@
--- `outline::wrapping::precedes` meets its contract: on an upright line by the height, else by the other coordinate.
+-- `shots::pairs::precedes` meets its contract: on an upright line by the height, else by the other coordinate.
 use mathlib.Core.Path.{sym, _∙_}
 use borrow.Author.Needs.{needs}
 use Rattle.shots.specs.Coordinates.{xOf, yOf}
-use Rattle.outline.specs.Wrapping.{beforeOf}
-use Rattle.outline.proofs.wrapping.precedes.Statement.{statement}
-use Rattle.outline.proofs.wrapping.precedes.Tie as tie
+use Rattle.shots.specs.Patch.{beforeOf}
+use Rattle.shots.proofs.pairs.precedes.Statement.{statement}
+use Rattle.shots.proofs.pairs.precedes.Tie as tie
 
 returns : tie.Need-returns
 unfolding beforeOf xOf yOf
