@@ -1,9 +1,9 @@
--- Edges of the outline of points in the plane, found as a string is wrapped around them: behind a point comes the one that no other point ahead is outside of, the farthest of those on one
+-- Edges of the outline of points in the plane, found as a string is wrapped around them: behind a point comes the one that no other point ahead is on the outer side of, the farthest of those on one
 -- line. Ahead is along a direction d that tells the points apart. Both sides at once: s is a factor of every turn, and its sign is the side of the points inside.
 --
 --   ahead i k           how far point k is ahead of point i
 --   swung i j k         s times the turn
---   Best p q m          of the points below m that are ahead of p none is outside of p and q, and none on their line is farther than q
+--   Best p q m          of the points below m that are ahead of p none is on the outer side of p and q, and none on their line is farther than q
 --   best-none, best-passed, best-kept, best-taken    while the points are gone through, one by one
 --   Edge p q            an edge of the outline: every point is inside or on its line, and those on its line are from p to q
 --   edge-first, edge-behind    from the first point of all, and behind an edge

@@ -11,7 +11,7 @@
 --   pairsOf c             the neighbours of c as pairs, in the order of c
 --   frontOf c, backOf c   c without its last, without its first
 --
--- Theorems: proofs/ChainLaws, outline/proofs/Promises.
+-- Theorems: proofs/ChainLaws, outline/proofs/Outline.
 use mathlib.Core.Path.{_≡_}
 use mathlib.Core.Logic.{_⊎_}
 use mathlib.Core.Bool.{cond}

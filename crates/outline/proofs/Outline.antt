@@ -4,7 +4,7 @@
 --   south-only, north-only      no other list of shots whose neighbours are sides is such a chain
 --   sides-once                  the neighbours of the two chains are the sides, each once
 --   corners-once                the shots of the south chain but its last, with those of the north chain but its first, are the corners, each once
---   sides-many, corners-many    so there are one less of each than the chain has shots, and the others'
+--   sides-many, corners-many    how many there are: (south length - 1) + (north length - 1)
 --   corners-least               three at least
 --   border-counts-chains        `border` gives that number
 use mathlib.Core.Path.{_≡_, refl, sym, _∙_, ap, subst}
@@ -27,12 +27,12 @@ use Rattle.shots.specs.Patch.{countOf}
 use Rattle.shots.specs.Tests.{refusalOf}
 use Rattle.shots.specs.Lines.{shotLines, SidePairs}
 use Rattle.shots.specs.Calls.{borderCallOf}
+use Rattle.shots.proofs.Orders.{eastward, before-ahead, ahead-apart}
 use Rattle.shots.proofs.Patch.{patch-bent}
 use Rattle.shots.proofs.Promises.{shots-kept}
 use Rattle.shots.proofs.Sides.{border-counts-sides}
 use Rattle.outline.specs.Wrapping.{firstOf, southOf, northOf}
-use Rattle.outline.specs.Lines.{Corners}
-use Rattle.shots.proofs.Orders.{onward, before-ahead, ahead-apart}
+use Rattle.outline.specs.Lines.{CornerShots}
 use Rattle.outline.proofs.Wraps.{first-of-all, chain-wrapped}
 
 module _ (l : List ℤ) where
@@ -52,43 +52,43 @@ module _ (l : List ℤ) where
     pub south-chain : Chain n (pointOf l) plus (southOf l)
     south-chain =
         let (c, is, w) = chain-wrapped l h false in
-        subst (Chain n (pointOf l) plus) (sym is) (wrapped-chain n (pointOf l) onward (ahead-apart l h) (λ i j _ _. before-ahead l h i j) plus (inl refl) (firstOf l) (first-of-all l h) c w)
+        subst (Chain n (pointOf l) plus) (sym is) (wrapped-chain n (pointOf l) eastward (ahead-apart l h) (λ i j _ _. before-ahead l h i j) plus (inl refl) (firstOf l) (first-of-all l h) c w)
 
     pub north-chain : Chain n (pointOf l) minus (northOf l)
     north-chain =
         let (c, is, w) = chain-wrapped l h true in
-        subst (Chain n (pointOf l) minus) (sym is) (wrapped-chain n (pointOf l) onward (ahead-apart l h) (λ i j _ _. before-ahead l h i j) minus (inr refl) (firstOf l) (first-of-all l h) c w)
+        subst (Chain n (pointOf l) minus) (sym is) (wrapped-chain n (pointOf l) eastward (ahead-apart l h) (λ i j _ _. before-ahead l h i j) minus (inr refl) (firstOf l) (first-of-all l h) c w)
 
     pub south-only : (c : List ℕ) → Chain n (pointOf l) plus c → ((i j : ℕ) → Neighbours c i j → Side n (pointOf l) i j) → c ≡ southOf l
     south-only c k sides =
         let (t, is, w) = chain-wrapped l h false in
-        chain-only n (pointOf l) onward (ahead-apart l h) (λ i j _ _. before-ahead l h i j) (patch-bent l h) plus (inl refl) (firstOf l) (first-of-all l h) t w c k sides ∙ sym is
+        chain-only n (pointOf l) eastward (ahead-apart l h) (λ i j _ _. before-ahead l h i j) (patch-bent l h) plus (inl refl) (firstOf l) (first-of-all l h) t w c k sides ∙ sym is
 
     pub north-only : (c : List ℕ) → Chain n (pointOf l) minus c → ((i j : ℕ) → Neighbours c i j → Side n (pointOf l) i j) → c ≡ northOf l
     north-only c k sides =
         let (t, is, w) = chain-wrapped l h true in
-        chain-only n (pointOf l) onward (ahead-apart l h) (λ i j _ _. before-ahead l h i j) (patch-bent l h) minus (inr refl) (firstOf l) (first-of-all l h) t w c k sides ∙ sym is
+        chain-only n (pointOf l) eastward (ahead-apart l h) (λ i j _ _. before-ahead l h i j) (patch-bent l h) minus (inr refl) (firstOf l) (first-of-all l h) t w c k sides ∙ sym is
 
     pub sides-once : SidePairs l (pairsOf (southOf l) ++ pairsOf (northOf l))
     unfolding value
     sides-once =
         let (c, is, w) = chain-wrapped l h false in
         let (c′, is′, w′) = chain-wrapped l h true in
-        subst (SidePairs l) (λ k. pairsOf (sym is k) ++ pairsOf (sym is′ k)) (outline-sides n (pointOf l) onward (ahead-apart l h) (patch-bent l h) (value plus) (value-nz plus (inl refl)) (firstOf l) (first-of-all l h) c c′ w w′)
+        subst (SidePairs l) (λ k. pairsOf (sym is k) ++ pairsOf (sym is′ k)) (outline-sides n (pointOf l) eastward (ahead-apart l h) (patch-bent l h) (value plus) (value-nz plus (inl refl)) (firstOf l) (first-of-all l h) c c′ w w′)
 
-    pub corners-once : Corners l (frontOf (southOf l) ++ backOf (northOf l))
+    pub corners-once : CornerShots l (frontOf (southOf l) ++ backOf (northOf l))
     unfolding value
     corners-once =
         let (c, is, w) = chain-wrapped l h false in
         let (c′, is′, w′) = chain-wrapped l h true in
-        subst (Corners l) (λ k. frontOf (sym is k) ++ backOf (sym is′ k)) (outline-corners n (pointOf l) onward (ahead-apart l h) (patch-bent l h) (value plus) (value-nz plus (inl refl)) (firstOf l) (first-of-all l h) c c′ w w′)
+        subst (CornerShots l) (λ k. frontOf (sym is k) ++ backOf (sym is′ k)) (outline-corners n (pointOf l) eastward (ahead-apart l h) (patch-bent l h) (value plus) (value-nz plus (inl refl)) (firstOf l) (first-of-all l h) c c′ w w′)
 
     pub corners-least : 3 ≤ (length (southOf l) - 1) + (length (northOf l) - 1)
     unfolding value
     corners-least =
         let (c, is, w) = chain-wrapped l h false in
         let (c′, is′, w′) = chain-wrapped l h true in
-        omega (arith, ap length is, ap length is′, outline-three n (pointOf l) onward (ahead-apart l h) (patch-bent l h) (value plus) (value-nz plus (inl refl)) (firstOf l) (first-of-all l h) c c′ w w′)
+        omega (arith, ap length is, ap length is′, outline-three n (pointOf l) eastward (ahead-apart l h) (patch-bent l h) (value plus) (value-nz plus (inl refl)) (firstOf l) (first-of-all l h) c c′ w w′)
 
   pub border-counts-chains : (v : ℕ) → (borderCallOf l ≡ gives v) ↔ (Clear (shotLines l) × ((length (southOf l) - 1) + (length (northOf l) - 1) ≡ v))
   border-counts-chains v = (

@@ -26,7 +26,7 @@ use Rattle.shots.specs.Tests.{shotRules}
 use Rattle.shots.specs.Lines.{shotLines}
 use Rattle.shots.proofs.Promises.{shots-decided}
 use Rattle.outline.specs.Wrapping.{southOf, northOf}
-use Rattle.outline.specs.Calls.{readOutlined, Outlining, leftIn, roomOf, roomsRule, lengthsOf, chainsOf, frontBytes, bufferFor, lengthFor, chainFor, partOf}
+use Rattle.outline.specs.Calls.{readOutlined, Outlining, outlinedIn, roomOf, roomsRule, lengthsOf, chainsOf, frontBytes, bufferFor, lengthFor, chainFor, partOf}
 use Rattle.outline.specs.Lines.{chainsLines}
 use Rattle.outline.specs.declared.Facing.{Facing}
 use Rattle.outline.specs.declared.Facing.the-variants as F
@@ -130,7 +130,7 @@ outlined-back : (r : Outlined) → outlinedAs (readOutlined r) ≡ r
 outlined-back (O.Chains k) = refl
 outlined-back (O.Refused n) = refl
 
-pub chains-one : (l : List ℤ) (s t u u′ v v′ : List ℕ) (r r′ : Outlined) → leftIn r u v ≡ chainsOf l s t → leftIn r′ u′ v′ ≡ chainsOf l s t → (r ≡ r′) × (u ≡ u′) × (v ≡ v′)
+pub chains-one : (l : List ℤ) (s t u u′ v v′ : List ℕ) (r r′ : Outlined) → outlinedIn r u v ≡ chainsOf l s t → outlinedIn r′ u′ v′ ≡ chainsOf l s t → (r ≡ r′) × (u ≡ u′) × (v ≡ v′)
 chains-one l s t u u′ v v′ r r′ p q =
     let e = p ∙ sym q in
     (one-answer readOutlined outlinedAs outlined-back (ap (λ (y : Outlining). y .answer) p) (ap (λ (y : Outlining). y .answer) q), ap (λ (y : Outlining). y .south) e, ap (λ (y : Outlining). y .north) e)

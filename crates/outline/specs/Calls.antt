@@ -1,12 +1,13 @@
 -- What each public call of this room answers, and all that it leaves, for every input: its contract is an equation with one of these.
 --
 --   readOutlined         the refusal number or the two lengths of each case of the answer
---   Outlining            the answer of `chains`, and the two buffers, whole; `leftIn`: of what the code leaves
+--   Outlining            the answer of `chains`, and the two buffers, whole; `outlinedIn`: of what the code leaves
 --   roomOf c d s t       the buffer s has room for the chain c, and t for d
 --   roomsRule l s t      11: the buffer s is shorter than the south chain, or t than the north chain
 --   lengthsOf l          the lengths of the two chains
+--   outlinedOf l s t     the answer of `chains`: the lengths; or 1-4, 11
 --   chainsOf l s t       the two chains at the front of the buffers s and t, and their lengths; or 1-4, 11, and both buffers as they were
---   frontBytes k b          the first k bytes of b; none where it has fewer
+--   frontBytes k b       the first k bytes of b; none where it has fewer
 --   bufferFor f s t, lengthFor f k, chainFor f l    of two buffers, of two lengths, of the two chains the one that is asked for
 --   partOf f s t k       the part of the buffer asked for that has its length of k; none where that exceeds it
 --
@@ -36,8 +37,8 @@ pub record Outlining : Type 0 where
   pub south : List ℕ
   pub north : List ℕ
 
-abbrev pub leftIn : Outlined → List ℕ → List ℕ → Outlining
-leftIn r s t = record { answer = readOutlined r; south = s; north = t }
+abbrev pub outlinedIn : Outlined → List ℕ → List ℕ → Outlining
+outlinedIn r s t = record { answer = readOutlined r; south = s; north = t }
 
 unfoldable pub roomOf : List ℕ → List ℕ → List ℕ → List ℕ → Bool
 roomOf c d s t = leb (length c) (length s) && leb (length d) (length t)

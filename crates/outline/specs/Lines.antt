@@ -1,9 +1,9 @@
 -- The lines of document 01's table of refusals that `chains` can give, as statements, in their order, and what it lists.
 --
 --   chainsLines l s t    1-4, and 11: one of the two buffers is shorter than its chain
---   Corners l xs         xs holds each corner, an end of a side, once, and nothing else
+--   CornerShots l xs     xs holds each corner, an end of a side, once, and nothing else
 --
--- The theorems: proofs/Promises. Source: document 02, E5.
+-- The theorems: proofs/Promises, proofs/Outline. Source: document 02, E5.
 use mathlib.Core.Logic.{_⊎_}
 use mathlib.Core.List.{List, [], _∷_, _++_}
 use Prim.Native.Nat.{ℕ}
@@ -20,5 +20,5 @@ use Rattle.outline.specs.Wrapping.{southOf, northOf}
 abbrev pub chainsLines : List ℤ → List ℕ → List ℕ → List Line
 chainsLines l s t = shotLines l ++ record { number = 11; when = NoRoom (southOf l) s ⊎ NoRoom (northOf l) t } ∷ []
 
-abbrev pub Corners : List ℤ → List ℕ → Type 0
-Corners l = Exactly 0 (Corner (countOf l) (pointOf l))
+abbrev pub CornerShots : List ℤ → List ℕ → Type 0
+CornerShots l = Exactly 0 (Corner (countOf l) (pointOf l))

@@ -6,7 +6,7 @@
 //
 // Every call takes every input; specs/Calls.antt says what it answers and leaves, specs/Lines.antt when it refuses.
 ghost use mathlib.Core.Path.{_≡_};
-ghost use Rattle.outline.specs.Calls.{leftIn, chainsOf, partOf};
+ghost use Rattle.outline.specs.Calls.{outlinedIn, chainsOf, partOf};
 
 mod buffers;
 mod wrapping;
@@ -29,7 +29,7 @@ pub enum Facing {
 }
 
 pub fn chains(shots: &[i32], south: &mut [u8], north: &mut [u8]) -> Outlined
-    ensures { λ r. ⌜ leftIn r (now (south .exit)) (now (north .exit)) ≡ chainsOf (now (shots .entry)) (now (south .entry)) (now (north .entry)) ⌝ }
+    ensures { λ r. ⌜ outlinedIn r (now (south .exit)) (now (north .exit)) ≡ chainsOf (now (shots .entry)) (now (south .entry)) (now (north .entry)) ⌝ }
 {
     let refusal = shots::tests::refusal(shots);
     if refusal != 0 {

@@ -1,4 +1,4 @@
-// The chains of an accepted patch: from the first shot on, each time the shot that no other one ahead is outside of.
+// The chains of an accepted patch: from the first shot on, each time the shot that no other one ahead passes.
 ghost use mathlib.Core.Path.{_≡_};
 ghost use Prim.Native.Nat.{_≤_, _<_};
 ghost use lib.ListN.{length, replicate};
@@ -34,7 +34,7 @@ fn first(shots: &[i32]) -> usize
     best
 }
 
-// Whether shot k comes behind p rather than q: it is ahead of p, and outside of p and q, or farther on their line. Outside of the north chain is left, of the south chain right.
+// Whether shot k comes behind p rather than q: it is ahead of p, and on the outer side of p and q, or farther on their line. The outer side of the north chain is left, of the south chain right.
 fn passes(shots: &[i32], north: bool, p: usize, q: usize, k: usize) -> bool
     requires { ⌜ (p < countOf (now shots)) × (q < countOf (now shots)) × (k < countOf (now shots)) × Near (now shots) ⌝ }
     ensures { λ r. ⌜ r ≡ passesOf (now (shots .entry)) north p q k ⌝ }

@@ -1,6 +1,6 @@
 -- From left to right, and upward where shots are upright above each other, as one direction: a step to the side counts for more than all steps up.
 --
---   onward           the direction
+--   eastward           the direction
 --   before-ahead     a shot is before another one exactly when that one is ahead along it
 --   ahead-apart      of two different shots one is ahead
 --   before-decided   the test of `Before` decides it
@@ -47,12 +47,12 @@ lead x y m h p = pos-cast (sym (λ k. wide k *ℤ step k +ℤ pos 1 *ℤ y)) (po
     step : x ≡ pos (p .by) +ℤ pos 1
     step = p .is ∙ ap pos (sym (add-one (p .by)))
 
-abbrev pub onward : Point
-onward = record { x = pos (suc (2 * farthest)); y = pos 1 }
+abbrev pub eastward : Point
+eastward = record { x = pos (suc (2 * farthest)); y = pos 1 }
 
 module _ (l : List ℤ) (h : refusalOf l ≡ 0) where
   abbrev Ahead : ℕ → ℕ → Type 0
-  Ahead i j = Pos (ahead (pointOf l) onward i j)
+  Ahead i j = Pos (ahead (pointOf l) eastward i j)
 
   abbrev dx : ℕ → ℕ → ℤ
   dx i j = xOf l j -ℤ xOf l i
@@ -67,12 +67,12 @@ module _ (l : List ℤ) (h : refusalOf l ≡ 0) where
   right-ahead : (i j : ℕ) → Pos (dx i j) → Ahead i j
   right-ahead i j = lead (dx i j) (dy i j) (2 * farthest) (near i j)
 
-  left-behind : (i j : ℕ) → Neg (dx i j) → Neg (ahead (pointOf l) onward i j)
+  left-behind : (i j : ℕ) → Neg (dx i j) → Neg (ahead (pointOf l) eastward i j)
   left-behind i j p = pos-cast
       (ring (pos (suc (2 * farthest)) ∷ dx i j ∷ dy i j ∷ []) (var 0 ⊗ neg (var 1) ⊕ cst (pos 1) ⊗ neg (var 2)) (neg (var 0 ⊗ var 1 ⊕ cst (pos 1) ⊗ var 2)) tt)
       (lead (negℤ (dx i j)) (negℤ (dy i j)) (2 * farthest) (omega (arith, natAbs-neg (dy i j), near i j)) p)
 
-  upright : (i j : ℕ) → dx i j ≡ pos 0 → ahead (pointOf l) onward i j ≡ dy i j
+  upright : (i j : ℕ) → dx i j ≡ pos 0 → ahead (pointOf l) eastward i j ≡ dy i j
   upright i j z = ap (λ (x : ℤ). pos (suc (2 * farthest)) *ℤ x +ℤ pos 1 *ℤ dy i j) z
       ∙ ring (pos (suc (2 * farthest)) ∷ dy i j ∷ []) (var 0 ⊗ cst (pos 0) ⊕ cst (pos 1) ⊗ var 1) (var 1) tt
 
@@ -87,7 +87,7 @@ module _ (l : List ℤ) (h : refusalOf l ≡ 0) where
       go p (at-nought z) = inr (sym (sub-zero→eq (xOf l j) (xOf l i) z), pos-cast (upright i j z) p)
       go p (below q) = neg-nn (left-behind i j q) (pos-nn p)
 
-  pub ahead-apart : (i j : ℕ) → i < countOf l → j < countOf l → ahead (pointOf l) onward i j ≡ pos 0 → i ≡ j
+  pub ahead-apart : (i j : ℕ) → i < countOf l → j < countOf l → ahead (pointOf l) eastward i j ≡ pos 0 → i ≡ j
   ahead-apart i j il jl z = dec→stable (ℕ-discrete i j) (λ ne. go ne (tri (dx i j)))
     where
       go : (i ≡ j → ⊥) → Tri (dx i j) → ⊥

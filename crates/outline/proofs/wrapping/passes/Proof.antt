@@ -9,36 +9,36 @@ use lib.IntN.{ℤ}
 use Rattle.algebra.specs.Sign.{Sign, minus, nought, plus, isNought, isPlus}
 use Rattle.algebra.proofs.SizeLaws.{sign-is-plus, sign-is-nought}
 use Rattle.shots.specs.Patch.{orientOf, beforeOf}
-use Rattle.outline.specs.Wrapping.{outsideOf, passesOf}
+use Rattle.outline.specs.Wrapping.{outerOf, passesOf}
 use Rattle.outline.proofs.wrapping.passes.Statement.{statement}
 use Rattle.outline.proofs.wrapping.passes.Tie as tie
 
 -- a shot ahead of p, by its sign
 module _ (l : List ℤ) (b : Bool) (p q k : ℕ) (h : beforeOf l p k ≡ true) where
-  outside : {r : Bool} → r ≡ outsideOf b (beforeOf l q k) (orientOf l p q k) → r ≡ passesOf l b p q k
+  outer : {r : Bool} → r ≡ outerOf b (beforeOf l q k) (orientOf l p q k) → r ≡ passesOf l b p q k
   unfolding passesOf
-  outside e = e ∙ sym (ap (λ (t : Bool). t && outsideOf b (beforeOf l q k) (orientOf l p q k)) h)
+  outer e = e ∙ sym (ap (λ (t : Bool). t && outerOf b (beforeOf l q k) (orientOf l p q k)) h)
 
   along : isNought (orientOf l p q k) ≡ true → beforeOf l q k ≡ passesOf l b p q k
-  along e = outside (go (orientOf l p q k) e)
+  along e = outer (go (orientOf l p q k) e)
     where
-      go : (s : Sign) → isNought s ≡ true → beforeOf l q k ≡ outsideOf b (beforeOf l q k) s
+      go : (s : Sign) → isNought s ≡ true → beforeOf l q k ≡ outerOf b (beforeOf l q k) s
       go minus h = cc
       go nought h = refl
       go plus h = cc
 
   left : isPlus (orientOf l p q k) ≡ true → b ≡ passesOf l b p q k
-  left e = outside (go (orientOf l p q k) e)
+  left e = outer (go (orientOf l p q k) e)
     where
-      go : (s : Sign) → isPlus s ≡ true → b ≡ outsideOf b (beforeOf l q k) s
+      go : (s : Sign) → isPlus s ≡ true → b ≡ outerOf b (beforeOf l q k) s
       go minus h = cc
       go nought h = cc
       go plus h = refl
 
   right : isNought (orientOf l p q k) ≡ false → isPlus (orientOf l p q k) ≡ false → not b ≡ passesOf l b p q k
-  right e f = outside (go (orientOf l p q k) e f)
+  right e f = outer (go (orientOf l p q k) e f)
     where
-      go : (s : Sign) → isNought s ≡ false → isPlus s ≡ false → not b ≡ outsideOf b (beforeOf l q k) s
+      go : (s : Sign) → isNought s ≡ false → isPlus s ≡ false → not b ≡ outerOf b (beforeOf l q k) s
       go minus h i = refl
       go nought h i = cc
       go plus h i = cc
