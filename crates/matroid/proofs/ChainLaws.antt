@@ -12,7 +12,7 @@ use mathlib.Core.Path.{_≡_, refl, sym, _∙_, ap, subst}
 use mathlib.Core.Logic.{_⊎_, inl, inr, ⊎-elim, _↔_}
 use mathlib.Core.Bool.{Bool, cond}
 use mathlib.Core.HLevel.{dec→stable}
-use mathlib.Core.List.{List, [], _∷_, _++_, List·Memᴰ, List·Memᴰ·head, List·Memᴰ·tail, List·Memᴰ·cases-cons, List·Memᴰ·append-cases, List·Memᴰ·not-nil, Memᴰ·append-left, Memᴰ·append-right}
+use mathlib.Core.List.{List, [], _∷_, _++_, dropLast, tail, List·Memᴰ, List·Memᴰ·head, List·Memᴰ·tail, List·Memᴰ·cases-cons, List·Memᴰ·append-cases, List·Memᴰ·not-nil, Memᴰ·append-left, Memᴰ·append-right}
 use Prim.Native.Nat.{ℕ, _+_, _-_, _≤_, _<_}
 use native.Mathlib.Omega.{arith}
 use native.Mathlib.Decide.{ℕ-discrete, decLt}
@@ -26,7 +26,7 @@ use Rattle.algebra.proofs.IntLaws.{*ℤ-neg-l}
 use Rattle.algebra.proofs.ListLaws.{two-parts, Apart, Other, apart-append, exactly-apart}
 use Rattle.algebra.proofs.SignLaws.{value-nz, valued-pos, valued-nn, tri, pos-cast, nn-cast, nn-add, pos-nn, pos-nn-add, pos-add, pos-zero, pos-of-nn, zero-if, dec-pos, dec-nz, np-of, nn-zero, zero-of-mul, self-neg, neg-zero}
 use Rattle.matroid.specs.Borders.{Side, SidePair}
-use Rattle.matroid.specs.Chains.{Before, Leftmost, Rightmost, Neighbours, Chain, Corner, inOrder, pairsOf, frontOf, backOf}
+use Rattle.matroid.specs.Chains.{Before, Leftmost, Rightmost, Neighbours, Chain, Corner, inOrder, pairsOf}
 use Rattle.matroid.specs.Points.{Point, Points, Distinct, Collinear}
 use Rattle.matroid.proofs.Lines.{line-through, collinear-iff}
 use Rattle.matroid.proofs.Planar.{points-differ}
@@ -78,12 +78,12 @@ pairs-many [] = refl
 pairs-many (p ∷ []) = refl
 pairs-many (p ∷ q ∷ c) = omega (arith, pairs-many (q ∷ c))
 
-pub front-many : (c : List ℕ) → length (frontOf c) ≡ length c - 1
+pub front-many : (c : List ℕ) → length (dropLast c) ≡ length c - 1
 front-many [] = refl
 front-many (p ∷ []) = refl
 front-many (p ∷ q ∷ c) = omega (arith, front-many (q ∷ c))
 
-pub back-many : (c : List ℕ) → length (backOf c) ≡ length c - 1
+pub back-many : (c : List ℕ) → length (tail c) ≡ length c - 1
 back-many [] = refl
 back-many (p ∷ c) = omega arith
 
@@ -200,7 +200,7 @@ module _ (n : ℕ) (P : Points) (d : Point) (apart : (i j : ℕ) → i < n → j
 
     -- ---- the points but the last, and but the first
 
-    front-out : (p : ℕ) (c : List ℕ) → Wrapped p c → (x : ℕ) → List·Memᴰ x (frontOf (p ∷ c)) → (j : ℕ) × Edge P d s n x j
+    front-out : (p : ℕ) (c : List ℕ) → Wrapped p c → (x : ℕ) → List·Memᴰ x (dropLast (p ∷ c)) → (j : ℕ) × Edge P d s n x j
     front-out p [] w x m = absurd (List·Memᴰ·not-nil m)
     front-out p (q ∷ c) (f, w) x m = ⊎-elim (λ z. (q, subst (λ (y : ℕ). Edge P d s n y q) (sym z) f)) (λ k. front-out q c w x k) (List·Memᴰ·cases-cons m)
 
@@ -208,16 +208,16 @@ module _ (n : ℕ) (P : Points) (d : Point) (apart : (i j : ℕ) → i < n → j
     back-out p [] w x m = absurd (List·Memᴰ·not-nil m)
     back-out p (q ∷ c) (f, w) x m = ⊎-elim (λ z. (p, subst (Edge P d s n p) (sym z) f)) (λ k. back-out q c w x k) (List·Memᴰ·cases-cons m)
 
-    front-apart : (p : ℕ) (c : List ℕ) → Wrapped p c → Apart Other (frontOf (p ∷ c))
+    front-apart : (p : ℕ) (c : List ℕ) → Wrapped p c → Apart Other (dropLast (p ∷ c))
     front-apart p [] w = tt
     front-apart p (q ∷ c) (f, w) = (λ y m. ahead-differ p y (later p (q ∷ c) (f, w) y (front-in q c m)), front-apart q c w)
       where
-        front-in : (q : ℕ) (c : List ℕ) {y : ℕ} → List·Memᴰ y (frontOf (q ∷ c)) → List·Memᴰ y (q ∷ c)
+        front-in : (q : ℕ) (c : List ℕ) {y : ℕ} → List·Memᴰ y (dropLast (q ∷ c)) → List·Memᴰ y (q ∷ c)
         front-in q [] m = absurd (List·Memᴰ·not-nil m)
         front-in q (r ∷ c) m = ⊎-elim (λ z. List·Memᴰ·head z) (λ k. List·Memᴰ·tail (front-in r c k)) (List·Memᴰ·cases-cons m)
 
     -- a point of the chain is not its last, or it is the last of all
-    front-or-last : (p : ℕ) (c : List ℕ) → Wrapped p c → (x : ℕ) → List·Memᴰ x (p ∷ c) → List·Memᴰ x (frontOf (p ∷ c)) ⊎ LastOf x
+    front-or-last : (p : ℕ) (c : List ℕ) → Wrapped p c → (x : ℕ) → List·Memᴰ x (p ∷ c) → List·Memᴰ x (dropLast (p ∷ c)) ⊎ LastOf x
     front-or-last p [] w x m = inr (⊎-elim (λ z. subst LastOf (sym z) w) (λ k. absurd (List·Memᴰ·not-nil k)) (List·Memᴰ·cases-cons m))
     front-or-last p (q ∷ c) (f, w) x m = ⊎-elim (λ z. inl (List·Memᴰ·head z)) (λ k. ⊎-elim (λ l. inl (List·Memᴰ·tail l)) inr (front-or-last q c w x k)) (List·Memᴰ·cases-cons m)
 
@@ -269,7 +269,7 @@ module _ (n : ℕ) (P : Points) (d : Point) (apart : (i j : ℕ) → i < n → j
       wrapped-of p [] e j [] is l = subst LastOf (sym (ap (λ (t : List ℕ). getD t 0 0) is)) l
       wrapped-of p [] e j (x ∷ front) is l = let k = ap length is in absurd (omega (arith, k, length-append front (j ∷ [])))
       wrapped-of p (q ∷ c) e j [] is l = let k = ap length is in absurd (omega (arith, k))
-      wrapped-of p (q ∷ c) e j (x ∷ front) is l = (e p q ([], c, refl), wrapped-of q c (λ i j (f, b, z). e i j (p ∷ f, b, ap (λ (t : List ℕ). p ∷ t) z)) j front (ap backOf is) l)
+      wrapped-of p (q ∷ c) e j (x ∷ front) is l = (e p q ([], c, refl), wrapped-of q c (λ i j (f, b, z). e i j (p ∷ f, b, ap (λ (t : List ℕ). p ∷ t) z)) j front (ap tail is) l)
 
       pub chain-only : (p : ℕ) → FirstOf p → (c : List ℕ) → Wrapped (value σ) p c → (t : List ℕ) → Chain n P σ t → ((i j : ℕ) → Neighbours t i j → Side n P i j) → t ≡ p ∷ c
       chain-only p first c w t h sides =
@@ -364,27 +364,27 @@ module _ (n : ℕ) (P : Points) (d : Point) (apart : (i j : ℕ) → i < n → j
 
     -- something is ahead of p, so neither chain ends at once
     module _ (k : ℕ) (kn : k < n) (kp : k ≡ p → ⊥) where
-      first-in : (c : List ℕ) → Wrapped s p c → List·Memᴰ p (frontOf (p ∷ c))
+      first-in : (c : List ℕ) → Wrapped s p c → List·Memᴰ p (dropLast (p ∷ c))
       first-in [] w = absurd (w k kn (first .1 k kn kp))
       first-in (q ∷ c) w = List·Memᴰ·head refl
 
-      corner-in : (x : ℕ) → x < n → List·Memᴰ x (p ∷ c) ⊎ List·Memᴰ x (p ∷ c′) → List·Memᴰ x (frontOf (p ∷ c) ++ c′)
+      corner-in : (x : ℕ) → x < n → List·Memᴰ x (p ∷ c) ⊎ List·Memᴰ x (p ∷ c′) → List·Memᴰ x (dropLast (p ∷ c) ++ c′)
       corner-in x xn m = go (ℕ-discrete x p) m
         where
-          south : (x ≡ p → ⊥) → List·Memᴰ x (frontOf (p ∷ c)) ⊎ LastOf x → List·Memᴰ x (frontOf (p ∷ c) ++ c′)
+          south : (x ≡ p → ⊥) → List·Memᴰ x (dropLast (p ∷ c)) ⊎ LastOf x → List·Memᴰ x (dropLast (p ∷ c) ++ c′)
           south ne (inl h) = Memᴰ·append-left c′ h
-          south ne (inr l) = Memᴰ·append-right (frontOf (p ∷ c)) (last-in (negℤ s) p (first .0) c′ w′ x xn l ne)
+          south ne (inr l) = Memᴰ·append-right (dropLast (p ∷ c)) (last-in (negℤ s) p (first .0) c′ w′ x xn l ne)
 
-          go : Dec (x ≡ p) → List·Memᴰ x (p ∷ c) ⊎ List·Memᴰ x (p ∷ c′) → List·Memᴰ x (frontOf (p ∷ c) ++ c′)
-          go (yes e) _ = Memᴰ·append-left c′ (subst (λ (y : ℕ). List·Memᴰ y (frontOf (p ∷ c))) (sym e) (first-in c w))
+          go : Dec (x ≡ p) → List·Memᴰ x (p ∷ c) ⊎ List·Memᴰ x (p ∷ c′) → List·Memᴰ x (dropLast (p ∷ c) ++ c′)
+          go (yes e) _ = Memᴰ·append-left c′ (subst (λ (y : ℕ). List·Memᴰ y (dropLast (p ∷ c))) (sym e) (first-in c w))
           go (no ne) (inl h) = south ne (front-or-last s p c w x h)
-          go (no ne) (inr h) = Memᴰ·append-right (frontOf (p ∷ c)) (⊎-elim (λ e. absurd (ne e)) (λ l. l) (List·Memᴰ·cases-cons h))
+          go (no ne) (inr h) = Memᴰ·append-right (dropLast (p ∷ c)) (⊎-elim (λ e. absurd (ne e)) (λ l. l) (List·Memᴰ·cases-cons h))
 
-    pub outline-corners : Exactly 0 (Corner n P) (frontOf (p ∷ c) ++ c′)
-    outline-corners = exactly-apart (frontOf (p ∷ c) ++ c′) (λ x. (λ m. out x (List·Memᴰ·append-cases (frontOf (p ∷ c)) m), into x))
-        (apart-append Other (frontOf (p ∷ c)) c′ (front-apart s p c w) (wrapped-apart (negℤ s) p c′ w′ .1) across)
+    pub outline-corners : Exactly 0 (Corner n P) (dropLast (p ∷ c) ++ c′)
+    outline-corners = exactly-apart (dropLast (p ∷ c) ++ c′) (λ x. (λ m. out x (List·Memᴰ·append-cases (dropLast (p ∷ c)) m), into x))
+        (apart-append Other (dropLast (p ∷ c)) c′ (front-apart s p c w) (wrapped-apart (negℤ s) p c′ w′ .1) across)
       where
-        out : (x : ℕ) → List·Memᴰ x (frontOf (p ∷ c)) ⊎ List·Memᴰ x c′ → Corner n P x
+        out : (x : ℕ) → List·Memᴰ x (dropLast (p ∷ c)) ⊎ List·Memᴰ x c′ → Corner n P x
         out x (inl m) = let (j, e) = front-out s p c w x m in corner-from s sz x j e .0
         out x (inr m) = let (o, e) = back-out (negℤ s) p c′ w′ x m in corner-from (negℤ s) sz′ o x e .1
 
@@ -396,18 +396,18 @@ module _ (n : ℕ) (P : Points) (d : Point) (apart : (i j : ℕ) → i < n → j
             pick (yes e) = (j, jn, λ z. ne (z ∙ sym e))
             pick (no o) = (x, xn, o)
 
-        into : (x : ℕ) → Corner n P x → List·Memᴰ x (frontOf (p ∷ c) ++ c′)
+        into : (x : ℕ) → Corner n P x → List·Memᴰ x (dropLast (p ∷ c) ++ c′)
         into x (xn, (j, jn, ne, side)) = go (dec-pos (ahead P d x j))
           where
-            at : List·Memᴰ x (p ∷ c) ⊎ List·Memᴰ x (p ∷ c′) → List·Memᴰ x (frontOf (p ∷ c) ++ c′)
+            at : List·Memᴰ x (p ∷ c) ⊎ List·Memᴰ x (p ∷ c′) → List·Memᴰ x (dropLast (p ∷ c) ++ c′)
             at = let (k, kn, kp) = another x j ne xn jn in corner-in k kn kp x xn
 
-            go : Dec (Ahead x j) → List·Memᴰ x (frontOf (p ∷ c) ++ c′)
+            go : Dec (Ahead x j) → List·Memᴰ x (dropLast (p ∷ c) ++ c′)
             go (yes h) = at (⊎-elim (λ m. inl (neighbours-in (p ∷ c) x j m .0)) (λ m. inr (neighbours-in (p ∷ c′) x j m .0)) (with-pair x j xn jn h side))
             go (no o) = let h = behind j x jn xn o ne in
                 at (⊎-elim (λ m. inl (neighbours-in (p ∷ c) j x m .1)) (λ m. inr (neighbours-in (p ∷ c′) j x m .1)) (with-pair j x jn xn h (turned j x jn xn h side)))
 
-        across : (x y : ℕ) → List·Memᴰ x (frontOf (p ∷ c)) → List·Memᴰ y c′ → x ≡ y → ⊥
+        across : (x y : ℕ) → List·Memᴰ x (dropLast (p ∷ c)) → List·Memᴰ y c′ → x ≡ y → ⊥
         across x y m m′ z =
             let (j, e) = front-out s p c w x m in
             let (o, f) = back-out (negℤ s) p c′ w′ y m′ in

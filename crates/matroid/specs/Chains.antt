@@ -9,7 +9,6 @@
 --   Corner n P i          point i is an end of a side
 --   inOrder i j           a pair of numbers, the lower one first
 --   pairsOf c             the neighbours of c as pairs, in the order of c
---   frontOf c, backOf c   c without its last, without its first
 --
 -- Theorems: proofs/ChainLaws, outline/proofs/Outline.
 use mathlib.Core.Path.{_≡_}
@@ -58,12 +57,3 @@ abbrev pub pairsOf : List ℕ → List (List ℕ)
 pairsOf [] = []
 pairsOf (i ∷ []) = []
 pairsOf (i ∷ j ∷ c) = inOrder i j ∷ pairsOf (j ∷ c)
-
-abbrev pub frontOf : List ℕ → List ℕ
-frontOf [] = []
-frontOf (i ∷ []) = []
-frontOf (i ∷ j ∷ c) = i ∷ frontOf (j ∷ c)
-
-abbrev pub backOf : List ℕ → List ℕ
-backOf [] = []
-backOf (i ∷ c) = c

@@ -10,7 +10,7 @@
 use mathlib.Core.Path.{_≡_, refl, sym, _∙_, ap, subst}
 use mathlib.Core.Logic.{inl, inr, _↔_}
 use mathlib.Core.Bool.{true, false}
-use mathlib.Core.List.{List, _++_}
+use mathlib.Core.List.{List, _++_, dropLast, tail}
 use Prim.Native.Nat.{ℕ, _+_, _-_, _≤_}
 use native.Mathlib.Omega.{arith}
 use lib.IntN.{ℤ}
@@ -20,7 +20,7 @@ use Rattle.algebra.specs.Sign.{minus, plus, value}
 use Rattle.algebra.proofs.ListLaws.{exactly-length}
 use Rattle.algebra.proofs.SignLaws.{value-nz}
 use Rattle.matroid.specs.Borders.{Side}
-use Rattle.matroid.specs.Chains.{Neighbours, Chain, pairsOf, frontOf, backOf}
+use Rattle.matroid.specs.Chains.{Neighbours, Chain, pairsOf}
 use Rattle.matroid.proofs.ChainLaws.{wrapped-chain, chain-only, outline-sides, outline-corners, outline-three, pairs-many, front-many, back-many}
 use Rattle.shots.specs.Coordinates.{pointOf}
 use Rattle.shots.specs.Patch.{countOf}
@@ -42,8 +42,8 @@ module _ (l : List ℤ) where
   pub sides-many : length (pairsOf (southOf l) ++ pairsOf (northOf l)) ≡ (length (southOf l) - 1) + (length (northOf l) - 1)
   sides-many = omega (arith, length-append (pairsOf (southOf l)) (pairsOf (northOf l)), pairs-many (southOf l), pairs-many (northOf l))
 
-  pub corners-many : length (frontOf (southOf l) ++ backOf (northOf l)) ≡ (length (southOf l) - 1) + (length (northOf l) - 1)
-  corners-many = omega (arith, length-append (frontOf (southOf l)) (backOf (northOf l)), front-many (southOf l), back-many (northOf l))
+  pub corners-many : length (dropLast (southOf l) ++ tail (northOf l)) ≡ (length (southOf l) - 1) + (length (northOf l) - 1)
+  corners-many = omega (arith, length-append (dropLast (southOf l)) (tail (northOf l)), front-many (southOf l), back-many (northOf l))
 
   module _ (a : Clear (shotLines l)) where
     h : refusalOf l ≡ 0
@@ -76,12 +76,12 @@ module _ (l : List ℤ) where
         let (c′, is′, w′) = chain-wrapped l h true in
         subst (SidePairs l) (λ k. pairsOf (sym is k) ++ pairsOf (sym is′ k)) (outline-sides n (pointOf l) eastward (ahead-apart l h) (patch-bent l h) (value plus) (value-nz plus (inl refl)) (firstOf l) (first-of-all l h) c c′ w w′)
 
-    pub corners-once : CornerShots l (frontOf (southOf l) ++ backOf (northOf l))
+    pub corners-once : CornerShots l (dropLast (southOf l) ++ tail (northOf l))
     unfolding value
     corners-once =
         let (c, is, w) = chain-wrapped l h false in
         let (c′, is′, w′) = chain-wrapped l h true in
-        subst (CornerShots l) (λ k. frontOf (sym is k) ++ backOf (sym is′ k)) (outline-corners n (pointOf l) eastward (ahead-apart l h) (patch-bent l h) (value plus) (value-nz plus (inl refl)) (firstOf l) (first-of-all l h) c c′ w w′)
+        subst (CornerShots l) (λ k. dropLast (sym is k) ++ tail (sym is′ k)) (outline-corners n (pointOf l) eastward (ahead-apart l h) (patch-bent l h) (value plus) (value-nz plus (inl refl)) (firstOf l) (first-of-all l h) c c′ w w′)
 
     pub corners-least : 3 ≤ (length (southOf l) - 1) + (length (northOf l) - 1)
     unfolding value

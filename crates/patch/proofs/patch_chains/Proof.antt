@@ -4,14 +4,14 @@ use mathlib.Core.List.{List}
 use Prim.Native.Nat.{ℕ}
 use borrow.Author.Needs.{needs}
 use Rattle.algebra.proofs.AnswerLaws.{in-case}
-use Rattle.outline.specs.Calls.{Outlining, readOutlined, leftIn}
+use Rattle.outline.specs.Calls.{Outlining, readOutlined, outlinedIn}
 use Rattle.outline.specs.declared.Outlined.{Outlined}
 use Rattle.patch.specs.Returns.{numberOf, southAt, northAt}
 use Rattle.patch.proofs.patch_chains.Statement.{statement}
 use Rattle.patch.proofs.patch_chains.Tie as tie
 
 -- for what the room's call left in the buffers, s and t, in the case o of its answer; the lent places of the lengths held j and k
-told : (j k : ℕ) (s t : List ℕ) {r o : Outlined} {g : Outlining} → r ≡ o → leftIn r s t ≡ g
+told : (j k : ℕ) (s t : List ℕ) {r o : Outlined} {g : Outlining} → r ≡ o → outlinedIn r s t ≡ g
     → (numberOf (readOutlined o) ≡ numberOf (g .answer)) × (s ≡ g .south) × (t ≡ g .north) × (southAt j (readOutlined o) ≡ southAt j (g .answer)) × (northAt k (readOutlined o) ≡ northAt k (g .answer))
 told j k s t e p =
     let q = in-case readOutlined e (ap (λ (g : Outlining). g .answer) p) in
