@@ -15,7 +15,7 @@
 --   placeOf s ss    the place of s in ss, from 0; the length of ss where s is not there
 --   nest k f a n    f of each increasing list of k numbers from a to n - 1, in lexicographic order, joined: k loops, one in the other
 --
--- Laws: proofs/SetLaws, proofs/BitLaws.
+-- Laws: proofs/SetLaws, proofs/BitLaws, proofs/ListLaws (`exactly-length`).
 use mathlib.Core.Path.{_≡_}
 use mathlib.Core.Logic.{_⊎_, _↔_}
 use mathlib.Core.Bool.{Bool, true, false, not, cond, _||_, _&&_}
