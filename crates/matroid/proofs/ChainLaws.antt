@@ -24,7 +24,7 @@ use Rattle.algebra.specs.Sign.{Sign, value, Pos, NN, NZ, Tri, below, at-nought,
 use Rattle.algebra.specs.Sign.{Side as Sided}
 use Rattle.algebra.proofs.IntLaws.{*ℤ-neg-l}
 use Rattle.algebra.proofs.ListLaws.{two-parts, Apart, Other, apart-append, exactly-apart}
-use Rattle.algebra.proofs.SignLaws.{value-nz, valued-pos, valued-nn, tri, pos-cast, nn-cast, nn-add, pos-nn, pos-nn-add, pos-add, pos-zero, pos-of-nn, zero-if, dec-pos, dec-nz, np-of, nn-zero, zero-of-mul, self-neg, neg-zero}
+use Rattle.algebra.proofs.SignLaws.{value-nz, valued-pos, valued-nn, tri, pos-cast, nn-cast, nn-add, pos-nn, pos-nn-add, pos-add, pos-zero, pos-of-nn, zero-if, dec-pos, dec-nz, np-of, nn-zero, zero-of-mul, neg-zero}
 use Rattle.matroid.specs.Borders.{Side, SidePair}
 use Rattle.matroid.specs.Chains.{Before, Leftmost, Rightmost, Neighbours, Chain, Corner, inOrder, pairsOf}
 use Rattle.matroid.specs.Points.{Point, Points, Distinct, Collinear}
@@ -33,7 +33,7 @@ use Rattle.matroid.proofs.Planar.{points-differ}
 use Rattle.matroid.proofs.Search.{some-below, dec-not}
 use Rattle.matroid.proofs.SideLaws.{side-turned}
 use Rattle.matroid.proofs.Sides.{turnAt}
-use Rattle.matroid.proofs.Wrapping.{ahead, ahead-back, ahead-add, swung, Edge, edge-turn, edge-one, edge-across, edge-side, side-edge, not-both, not-through}
+use Rattle.matroid.proofs.Wrapping.{ahead, ahead-self, ahead-back, ahead-add, swung, Edge, edge-turn, edge-one, edge-across, edge-side, side-edge, not-both, not-through}
 
 -- ---- neighbours in a list
 
@@ -101,14 +101,11 @@ module _ (n : ℕ) (P : Points) (d : Point) (apart : (i j : ℕ) → i < n → j
   behind : (i j : ℕ) → i < n → j < n → (Ahead j i → ⊥) → (i ≡ j → ⊥) → Ahead i j
   behind i j il jl h ne = pos-of-nn (ahead P d i j) (nn-cast (ahead-back P d j i) (np-of (ahead P d j i) h)) (λ z. ne (apart i j il jl z))
 
-  self-zero : (i : ℕ) → ahead P d i i ≡ pos 0
-  self-zero i = self-neg (ahead P d i i) (sym (ahead-back P d i i))
-
   ahead-differ : (i j : ℕ) → Ahead i j → i ≡ j → ⊥
-  ahead-differ i j h e = pos-zero h (ap (ahead P d i) (sym e) ∙ self-zero i)
+  ahead-differ i j h e = pos-zero h (ap (ahead P d i) (sym e) ∙ ahead-self P d i)
 
   distinct : Distinct n P
-  distinct i j h jn e = let z = apart i j (omega arith) jn (ap (λ (r : Point). d .x *ℤ (r .x -ℤ P i .x) +ℤ d .y *ℤ (r .y -ℤ P i .y)) (sym e) ∙ self-zero i) in omega arith
+  distinct i j h jn e = let z = apart i j (omega arith) jn (ap (λ (r : Point). d .x *ℤ (r .x -ℤ P i .x) +ℤ d .y *ℤ (r .y -ℤ P i .y)) (sym e) ∙ ahead-self P d i) in omega arith
 
   -- two different points have another one off their line
   off-line : (Collinear n P → ⊥) → (i j : ℕ) → i < n → j < n → Ahead i j → (k : ℕ) × (k < n) × NZ (turnAt P i j k)
@@ -185,7 +182,7 @@ module _ (n : ℕ) (P : Points) (d : Point) (apart : (i j : ℕ) → i < n → j
     pairs-out : (p : ℕ) (c : List ℕ) → Wrapped p c → {e : List ℕ} → List·Memᴰ e (pairsOf (p ∷ c)) → (i : ℕ) × (j : ℕ) × (e ≡ inOrder i j) × Edge P d s n i j × NN (ahead P d p i)
     pairs-out p [] w m = absurd (List·Memᴰ·not-nil m)
     pairs-out p (q ∷ c) (f, w) m = ⊎-elim
-        (λ z. (p, q, z, f, nn-zero (self-zero p)))
+        (λ z. (p, q, z, f, nn-zero (ahead-self P d p)))
         (λ k. let (i, j, is, e, h) = pairs-out q c w k in (i, j, is, e, nn-cast (ahead-add P d p q i) (nn-add (pos-nn (f .onward)) h)))
         (List·Memᴰ·cases-cons m)
 
@@ -233,7 +230,7 @@ module _ (n : ℕ) (P : Points) (d : Point) (apart : (i j : ℕ) → i < n → j
   -- ---- the published chain
 
   module _ (order : (i j : ℕ) → i < n → j < n → Before P i j ↔ Ahead i j) where
-    pub first-leftmost : (p : ℕ) → FirstOf p → Leftmost n P p
+    first-leftmost : (p : ℕ) → FirstOf p → Leftmost n P p
     first-leftmost p (pn, h) = (pn, λ k kn ne. order p k pn kn .1 (h k kn ne))
 
     pub wrapped-chain : (σ : Sign) → Sided σ → (p : ℕ) → FirstOf p → (c : List ℕ) → Wrapped (value σ) p c → Chain n P σ (p ∷ c)
@@ -276,15 +273,15 @@ module _ (n : ℕ) (P : Points) (d : Point) (apart : (i j : ℕ) → i < n → j
           let (r, back, is, least) = h .begins in
           let (j, front, at, greatest) = h .ends in
           let one = same p r first least in
-          let rest = wrapped-of p back (λ i j m. edge-of t h i j (subst (λ (x : List ℕ). Neighbours x i j) (sym (is ∙ ap (λ (x : ℕ). x ∷ back) (sym one))) m) (sides i j (subst (λ (x : List ℕ). Neighbours x i j) (sym (is ∙ ap (λ (x : ℕ). x ∷ back) (sym one))) m)))
-          j front (ap (λ (x : ℕ). x ∷ back) one ∙ sym is ∙ at) (λ k kn f. last k kn j f greatest) in
-          is ∙ (λ k. sym one k ∷ wrapped-one (value σ) p back c rest w k)
+          let whole : t ≡ p ∷ back = is ∙ ap (λ (x : ℕ). x ∷ back) (sym one) in
+          let rest = wrapped-of p back (λ i j m. let k = subst (λ (x : List ℕ). Neighbours x i j) (sym whole) m in edge-of t h i j k (sides i j k)) j front (sym whole ∙ at) (λ k kn f. last k kn j f greatest) in
+          whole ∙ ap (λ (x : List ℕ). p ∷ x) (wrapped-one (value σ) p back c rest w)
         where
           same : (p r : ℕ) → FirstOf p → Leftmost n P r → p ≡ r
-          same p r (pn, fp) (rn, fr) = dec→stable (ℕ-discrete p r) (λ ne. pos-zero (pos-add (fp r rn (λ z. ne (sym z))) (order r p rn pn .0 (fr p pn ne))) (ahead-add P d p r p ∙ self-zero p))
+          same p r (pn, fp) (rn, fr) = dec→stable (ℕ-discrete p r) (λ ne. pos-zero (pos-add (fp r rn (λ z. ne (sym z))) (order r p rn pn .0 (fr p pn ne))) (ahead-add P d p r p ∙ ahead-self P d p))
 
           last : (k : ℕ) → k < n → (j : ℕ) → Ahead j k → Rightmost n P j → ⊥
-          last k kn j f (jn, g) = pos-zero (pos-add f (order k j kn jn .0 (g k kn (λ z. ahead-differ j k f (sym z))))) (ahead-add P d j k j ∙ self-zero j)
+          last k kn j f (jn, g) = pos-zero (pos-add f (order k j kn jn .0 (g k kn (λ z. ahead-differ j k f (sym z))))) (ahead-add P d j k j ∙ ahead-self P d j)
 
   -- ---- both sides
 
@@ -296,7 +293,7 @@ module _ (n : ℕ) (P : Points) (d : Point) (apart : (i j : ℕ) → i < n → j
     not-behind i il = go (ℕ-discrete i p)
       where
         go : Dec (i ≡ p) → NN (ahead P d p i)
-        go (yes e) = nn-zero (ap (ahead P d p) e ∙ self-zero p)
+        go (yes e) = nn-zero (ap (ahead P d p) e ∙ ahead-self P d p)
         go (no ne) = pos-nn (first .1 i il ne)
 
     -- a side is an edge of one of the two
@@ -351,7 +348,7 @@ module _ (n : ℕ) (P : Points) (d : Point) (apart : (i j : ℕ) → i < n → j
             let (i, j, is, e, _) = pairs-out s p c w m in
             let (i′, j′, is′, e′, _) = pairs-out (negℤ s) p c′ w′ m′ in
             ⊎-elim (λ (a, b). not-both P d s sz n bent i j e (subst (λ (u : ℕ). Edge P d (negℤ s) n u j) (sym a) (subst (Edge P d (negℤ s) n i′) (sym b) e′)))
-            (λ (a, b). pos-zero (pos-add (e .onward) (pos-cast (λ k. ahead P d (sym b k) (sym a k)) (e′ .onward))) (ahead-add P d i j i ∙ self-zero i))
+            (λ (a, b). pos-zero (pos-add (e .onward) (pos-cast (λ k. ahead P d (sym b k) (sym a k)) (e′ .onward))) (ahead-add P d i j i ∙ ahead-self P d i))
             (same-pair i j i′ j′ (sym is ∙ z ∙ is′))
 
     -- ---- corners

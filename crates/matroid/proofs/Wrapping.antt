@@ -1,7 +1,7 @@
 -- Edges of the outline of points in the plane, found as a string is wrapped around them: behind a point comes the one that no other point ahead is on the outer side of, the farthest of those on one
 -- line. Ahead is along a direction d that tells the points apart. Both sides at once: s is a factor of every turn, and its sign is the side of the points inside.
 --
---   ahead i k           how far point k is ahead of point i
+--   ahead i k           how far point k is ahead of point i; `ahead-self`, `ahead-back`, `ahead-add`: not at all of itself, back again, and in two steps
 --   swung i j k         s times the turn
 --   Best p q m          of the points below m that are ahead of p none is on the outer side of p and q, and none on their line is farther than q
 --   best-none, best-passed, best-kept, best-taken    while the points are gone through, one by one
@@ -46,7 +46,7 @@ module _ (P : Points) (d : Point) where
   abbrev A : ℕ → ℕ → Ex
   A i k = X 4 ⊗ (X k ⊝ X i) ⊕ Y 4 ⊗ (Y k ⊝ Y i)
 
-  ahead-self : (i : ℕ) → ahead i i ≡ pos 0
+  pub ahead-self : (i : ℕ) → ahead i i ≡ pos 0
   ahead-self i = ring (ρ i i i i (pos 0) (pos 0)) (A 0 0) (cst (pos 0)) tt
 
   pub ahead-back : (i k : ℕ) → negℤ (ahead i k) ≡ ahead k i
