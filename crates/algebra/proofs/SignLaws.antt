@@ -16,7 +16,7 @@
 --   square-nn, square-pos, squares-zero, square-mul     squares; one times a product
 --   signOf-pos, signOf-neg, signOf-zero     the sign as a value, from the statement
 --   pos-signOf, neg-signOf, zero-signOf     and back
---   value-nz, valued-pos, valued-nn     a number times the sign of a side
+--   value-nz, value-plus, value-minus, valued-pos, valued-nn     a number times the sign of a side
 --   scaled-sign      numbers that are the same up to positive factors have the same sign
 --   signOf-opposite, opposite-opposite, nought-opposite     a number and its negative
 --   plus-minus, plus-nought, minus-nought     signs are told apart
@@ -347,11 +347,11 @@ value-nz plus _ = pos-zero (record { by = 0; is = refl })
 value-nz minus _ = λ e. pos-zero (record { by = 0; is = refl }) (ap negℤ e)
 value-nz nought k = absurd (nought-side k)
 
-value-plus : (z : ℤ) → value plus *ℤ z ≡ z
+pub value-plus : (z : ℤ) → value plus *ℤ z ≡ z
 unfolding value
 value-plus z = ring (z ∷ []) (cst (pos 1) ⊗ var 0) (var 0) tt
 
-value-minus : (z : ℤ) → value minus *ℤ z ≡ negℤ z
+pub value-minus : (z : ℤ) → value minus *ℤ z ≡ negℤ z
 unfolding value
 value-minus z = ring (z ∷ []) (cst (negsuc 0) ⊗ var 0) (neg (var 0)) tt
 

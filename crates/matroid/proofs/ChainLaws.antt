@@ -4,9 +4,9 @@
 --   Wrapped s p c      from p the edges of the side s go along c, to a point with none ahead
 --   wrapped-chain      so p and c are a chain, where p is the first of all
 --   chain-only         and no other list of sides is such a chain
---   outline-sides      the neighbours of the two chains from p are the sides, each once
---   outline-corners    and the points of the first but its last, with those of the second but its first, are the corners, each once
---   outline-three      there are three at least
+--   wrapped-sides      the neighbours of the two chains from p are the sides, each once
+--   wrapped-corners    and the points of the first but its last, with those of the second but its first, are the corners, each once
+--   wrapped-three      there are three at least
 --   pairs-many, front-many, back-many    a chain has one pair of neighbours less than points, and so without its last or its first
 use mathlib.Core.Path.{_≡_, refl, sym, _∙_, ap, subst}
 use mathlib.Core.Logic.{_⊎_, inl, inr, ⊎-elim, _↔_}
@@ -325,8 +325,8 @@ module _ (n : ℕ) (P : Points) (d : Point) (apart : (i j : ℕ) → i < n → j
         (λ (front, back, is). Memᴰ·append-right (pairsOf (p ∷ c)) (subst (λ (t : List ℕ). List·Memᴰ (inOrder i j) (pairsOf t)) (sym is) (pairs-in front back i j)))
         (with-pair i j il jl h side)
 
-    pub outline-sides : Exactly [] (SidePair n P) (pairsOf (p ∷ c) ++ pairsOf (p ∷ c′))
-    outline-sides = exactly-apart (pairsOf (p ∷ c) ++ pairsOf (p ∷ c′)) (λ e. (λ m. ⊎-elim (out s sz c w) (out (negℤ s) sz′ c′ w′) (List·Memᴰ·append-cases (pairsOf (p ∷ c)) m), into e))
+    pub wrapped-sides : Exactly [] (SidePair n P) (pairsOf (p ∷ c) ++ pairsOf (p ∷ c′))
+    wrapped-sides = exactly-apart (pairsOf (p ∷ c) ++ pairsOf (p ∷ c′)) (λ e. (λ m. ⊎-elim (out s sz c w) (out (negℤ s) sz′ c′ w′) (List·Memᴰ·append-cases (pairsOf (p ∷ c)) m), into e))
         (apart-append Other (pairsOf (p ∷ c)) (pairsOf (p ∷ c′)) (pairs-apart s p c w) (pairs-apart (negℤ s) p c′ w′) across)
       where
         out : (s : ℤ) → NZ s → (c : List ℕ) → Wrapped s p c → {x : List ℕ} → List·Memᴰ x (pairsOf (p ∷ c)) → SidePair n P x
@@ -377,8 +377,8 @@ module _ (n : ℕ) (P : Points) (d : Point) (apart : (i j : ℕ) → i < n → j
           go (no ne) (inl h) = south ne (front-or-last s p c w x h)
           go (no ne) (inr h) = Memᴰ·append-right (dropLast (p ∷ c)) (⊎-elim (λ e. absurd (ne e)) (λ l. l) (List·Memᴰ·cases-cons h))
 
-    pub outline-corners : Exactly 0 (Corner n P) (dropLast (p ∷ c) ++ c′)
-    outline-corners = exactly-apart (dropLast (p ∷ c) ++ c′) (λ x. (λ m. out x (List·Memᴰ·append-cases (dropLast (p ∷ c)) m), into x))
+    pub wrapped-corners : Exactly 0 (Corner n P) (dropLast (p ∷ c) ++ c′)
+    wrapped-corners = exactly-apart (dropLast (p ∷ c) ++ c′) (λ x. (λ m. out x (List·Memᴰ·append-cases (dropLast (p ∷ c)) m), into x))
         (apart-append Other (dropLast (p ∷ c)) c′ (front-apart s p c w) (wrapped-apart (negℤ s) p c′ w′ .1) across)
       where
         out : (x : ℕ) → List·Memᴰ x (dropLast (p ∷ c)) ⊎ List·Memᴰ x c′ → Corner n P x
@@ -410,8 +410,8 @@ module _ (n : ℕ) (P : Points) (d : Point) (apart : (i j : ℕ) → i < n → j
             let (o, f) = back-out (negℤ s) p c′ w′ y m′ in
             not-through P d s sz n o x j (subst (Edge P d (negℤ s) n o) (sym z) f) e
 
-    pub outline-three : 3 ≤ length c + length c′
-    outline-three = go c c′ w w′
+    pub wrapped-three : 3 ≤ length c + length c′
+    wrapped-three = go c c′ w w′
       where
         some : (k : ℕ) × (k < n) × (k ≡ p → ⊥)
         some = pick (some-below n (λ k. k ≡ p → ⊥) (λ k. dec-not (ℕ-discrete k p)))

@@ -1,7 +1,7 @@
 -- Edges of the outline of points in the plane, found as a string is wrapped around them: behind a point comes the one that no other point ahead is on the outer side of, the farthest of those on one
 -- line. Ahead is along a direction d that tells the points apart. Both sides at once: s is a factor of every turn, and its sign is the side of the points inside.
 --
---   ahead i k           how far point k is ahead of point i; `ahead-self`, `ahead-back`, `ahead-add`: not at all of itself, back again, and in two steps
+--   ahead i k           how far point k is ahead of point i; `ahead-self`, `ahead-back`, `ahead-add`: not at all of itself, back again, and in two steps; `not-back`: not both ways
 --   swung i j k         s times the turn
 --   Best p q m          of the points below m that are ahead of p none is on the outer side of p and q, and none on their line is farther than q
 --   best-none, best-passed, best-kept, best-taken    while the points are gone through, one by one
@@ -55,7 +55,7 @@ module _ (P : Points) (d : Point) where
   pub ahead-add : (i j k : ℕ) → ahead i j +ℤ ahead j k ≡ ahead i k
   ahead-add i j k = ring (ρ i j k k (pos 0) (pos 0)) (A 0 1 ⊕ A 1 2) (A 0 2) tt
 
-  not-back : {X : Type 0} (i k : ℕ) → Pos (ahead i k) → NN (ahead k i) → X
+  pub not-back : {X : Type 0} (i k : ℕ) → Pos (ahead i k) → NN (ahead k i) → X
   not-back i k h = neg-nn (pos-cast (sym (ahead-back k i)) h)
 
   -- what is on a line is between two points of it where it is ahead of the one and behind the other

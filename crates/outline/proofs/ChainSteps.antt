@@ -1,8 +1,9 @@
 -- A chain while it is written, shot by shot.
 --
+--   chain-at-last, chain-goes-on    a chain from its last shot on, and from another one
 --   chain-short     a chain has at most so many shots as it may have
---   Left l north n out count p    what is still to come, from p on, makes of the array out what the whole chain makes of an empty one; so many shots are there
---   left-all, left-more, left-last, left-none     before the first shot, behind one, behind the last, and where all n are there
+--   Coming l north n out count p    what is still to come, from p on, makes of the array out what the whole chain makes of an empty one; so many shots are there
+--   coming-all, coming-more, coming-last, coming-none     before the first shot, behind one, behind the last, and where all n are there
 use mathlib.Core.Path.{_≡_, refl, sym, _∙_, ap}
 use mathlib.Core.Bool.{Bool, true, false, cond}
 use mathlib.Core.List.{List, [], _∷_}
@@ -46,20 +47,20 @@ module _ (l : List ℤ) (north : Bool) where
   abbrev Whole : List ℕ → ℕ → Type 0
   Whole out count = (out ≡ wrote (replicate shotsMost 0) 0 (chainOf l north)) × (count ≡ length (chainOf l north))
 
-  abbrev pub Left : ℕ → List ℕ → ℕ → ℕ → Type 0
-  Left n out count p = Whole (wrote out count (chainFrom l north (n - count) p)) (count + length (chainFrom l north (n - count) p))
+  abbrev pub Coming : ℕ → List ℕ → ℕ → ℕ → Type 0
+  Coming n out count p = Whole (wrote out count (chainFrom l north (n - count) p)) (count + length (chainFrom l north (n - count) p))
 
-  pub left-all : (p : ℕ) → p ≡ firstOf l → Left (countOf l) (replicate shotsMost 0) 0 p
+  pub coming-all : (p : ℕ) → p ≡ firstOf l → Coming (countOf l) (replicate shotsMost 0) 0 p
   unfolding chainOf
-  left-all p h =
+  coming-all p h =
       let m : countOf l - 0 ≡ countOf l = omega arith in
       let e : chainFrom l north (countOf l - 0) p ≡ chainFrom l north (countOf l) (firstOf l) = λ k. chainFrom l north (m k) (h k) in
       (ap (wrote (replicate shotsMost 0) 0) e, omega (arith, ap length e))
 
-  module _ (n : ℕ) (out : List ℕ) (count p : ℕ) (h : Left n out count p) where
-    pub left-none : n ≤ count → Whole out count
+  module _ (n : ℕ) (out : List ℕ) (count p : ℕ) (h : Coming n out count p) where
+    pub coming-none : n ≤ count → Whole out count
     unfolding wrote chainFrom
-    left-none k = let e : n - count ≡ 0 = omega arith in
+    coming-none k = let e : n - count ≡ 0 = omega arith in
         (sym (ap (λ (m : ℕ). wrote out count (chainFrom l north m p)) e) ∙ h .0, omega (arith, h .1, ap (λ (m : ℕ). length (chainFrom l north m p)) e))
 
     module _ (k : count < n) where
@@ -73,9 +74,9 @@ module _ (l : List ℤ) (north : Bool) where
           let q = ap (λ (m : ℕ). chainFrom l north m p) more ∙ e in
           (sym (ap (wrote out count) q) ∙ h .0, omega (arith, h .1, ap length q))
 
-      pub left-last : nextOf l north p ≡ p → Whole (set out count p) (count + 1)
+      pub coming-last : nextOf l north p ≡ p → Whole (set out count p) (count + 1)
       unfolding wrote
-      left-last e = let (a, b) = begun (chain-at-last (n - (count + 1)) p e) in (a, omega (arith, b))
+      coming-last e = let (a, b) = begun (chain-at-last (n - (count + 1)) p e) in (a, omega (arith, b))
 
-      pub left-more : (q : ℕ) → q ≡ nextOf l north p → (q ≡ p → ⊥) → Left n (set out count p) (count + 1) q
-      left-more q e ne = begun (chain-goes-on (n - (count + 1)) p (λ z. ne (e ∙ z)) ∙ ap (λ (k : ℕ). p ∷ chainFrom l north (n - (count + 1)) k) (sym e))
+      pub coming-more : (q : ℕ) → q ≡ nextOf l north p → (q ≡ p → ⊥) → Coming n (set out count p) (count + 1) q
+      coming-more q e ne = begun (chain-goes-on (n - (count + 1)) p (λ z. ne (e ∙ z)) ∙ ap (λ (k : ℕ). p ∷ chainFrom l north (n - (count + 1)) k) (sym e))

@@ -21,7 +21,7 @@ use Rattle.algebra.proofs.ListLaws.{exactly-length}
 use Rattle.algebra.proofs.SignLaws.{value-nz}
 use Rattle.matroid.specs.Borders.{Side}
 use Rattle.matroid.specs.Chains.{Neighbours, Chain, pairsOf}
-use Rattle.matroid.proofs.ChainLaws.{wrapped-chain, chain-only, outline-sides, outline-corners, outline-three, pairs-many, front-many, back-many}
+use Rattle.matroid.proofs.ChainLaws.{wrapped-chain, chain-only, wrapped-sides, wrapped-corners, wrapped-three, pairs-many, front-many, back-many}
 use Rattle.shots.specs.Coordinates.{pointOf}
 use Rattle.shots.specs.Patch.{countOf}
 use Rattle.shots.specs.Tests.{refusalOf}
@@ -74,21 +74,21 @@ module _ (l : List ℤ) where
     sides-once =
         let (c, is, w) = chain-wrapped l h false in
         let (c′, is′, w′) = chain-wrapped l h true in
-        subst (SidePairs l) (λ k. pairsOf (sym is k) ++ pairsOf (sym is′ k)) (outline-sides n (pointOf l) eastward (ahead-apart l h) (patch-bent l h) (value plus) (value-nz plus (inl refl)) (firstOf l) (first-of-all l h) c c′ w w′)
+        subst (SidePairs l) (λ k. pairsOf (sym is k) ++ pairsOf (sym is′ k)) (wrapped-sides n (pointOf l) eastward (ahead-apart l h) (patch-bent l h) (value plus) (value-nz plus (inl refl)) (firstOf l) (first-of-all l h) c c′ w w′)
 
     pub corners-once : CornerShots l (dropLast (southOf l) ++ tail (northOf l))
     unfolding value
     corners-once =
         let (c, is, w) = chain-wrapped l h false in
         let (c′, is′, w′) = chain-wrapped l h true in
-        subst (CornerShots l) (λ k. dropLast (sym is k) ++ tail (sym is′ k)) (outline-corners n (pointOf l) eastward (ahead-apart l h) (patch-bent l h) (value plus) (value-nz plus (inl refl)) (firstOf l) (first-of-all l h) c c′ w w′)
+        subst (CornerShots l) (λ k. dropLast (sym is k) ++ tail (sym is′ k)) (wrapped-corners n (pointOf l) eastward (ahead-apart l h) (patch-bent l h) (value plus) (value-nz plus (inl refl)) (firstOf l) (first-of-all l h) c c′ w w′)
 
     pub corners-least : 3 ≤ (length (southOf l) - 1) + (length (northOf l) - 1)
     unfolding value
     corners-least =
         let (c, is, w) = chain-wrapped l h false in
         let (c′, is′, w′) = chain-wrapped l h true in
-        omega (arith, ap length is, ap length is′, outline-three n (pointOf l) eastward (ahead-apart l h) (patch-bent l h) (value plus) (value-nz plus (inl refl)) (firstOf l) (first-of-all l h) c c′ w w′)
+        omega (arith, ap length is, ap length is′, wrapped-three n (pointOf l) eastward (ahead-apart l h) (patch-bent l h) (value plus) (value-nz plus (inl refl)) (firstOf l) (first-of-all l h) c c′ w w′)
 
   pub border-counts-chains : (v : ℕ) → (borderCallOf l ≡ gives v) ↔ (Clear (shotLines l) × ((length (southOf l) - 1) + (length (northOf l) - 1) ≡ v))
   border-counts-chains v = (

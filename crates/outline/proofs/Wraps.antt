@@ -17,12 +17,11 @@ use Rattle.algebra.specs.Answer.{Reflects}
 use Rattle.algebra.specs.Loops.{fold}
 use Rattle.algebra.specs.Sign.{Sign, minus, nought, plus, signOf, opposite, value, Pos, NN, NP, NZ}
 use Rattle.algebra.proofs.AnswerLaws.{reflects-iff, reflects-yes, reflects-no, reflects-true, reflects-false}
-use Rattle.algebra.proofs.IntLaws.{one-*ℤ, *ℤ-neg-l}
 use Rattle.algebra.proofs.LoopLaws.{last}
-use Rattle.algebra.proofs.SignLaws.{pos-cast, nn-cast, pos-nn, nn-zero, mul-zero, pos-add, pos-zero, neg-nn, pos-of-nn, np-of, pos-signOf, neg-signOf, zero-signOf, signOf-zero, signOf-opposite, plus-nought, minus-nought}
+use Rattle.algebra.proofs.SignLaws.{value-plus, value-minus, pos-cast, nn-cast, pos-nn, nn-zero, mul-zero, pos-add, pos-zero, pos-of-nn, np-of, pos-signOf, neg-signOf, zero-signOf, signOf-zero, signOf-opposite, plus-nought, minus-nought}
 use Rattle.matroid.proofs.Turns.{turn-first}
 use Rattle.matroid.proofs.Search.{cnt, cnt-lt, cnt-below}
-use Rattle.matroid.proofs.Wrapping.{ahead, ahead-back, ahead-add, swung, Best, best-none, best-passed, best-kept, best-taken, Edge, edge-first, edge-behind}
+use Rattle.matroid.proofs.Wrapping.{ahead, ahead-self, ahead-back, ahead-add, not-back, swung, Best, best-none, best-passed, best-kept, best-taken, Edge, edge-first, edge-behind}
 use Rattle.matroid.proofs.ChainLaws.{FirstOf, Wrapped}
 use Rattle.shots.specs.Coordinates.{pointOf, areaOf}
 use Rattle.shots.specs.Patch.{countOf, orientOf, beforeOf}
@@ -81,8 +80,8 @@ module _ (l : List ℤ) (h : refusalOf l ≡ 0) where
   -- what is on the outer side of the north chain is so of the south chain, with its sign turned
   outer-turned : (b f : Bool) (z : ℤ) → outerOf b f (signOf z) ≡ outerOf false f (signOf (value (innerSign b) *ℤ z))
   unfolding value opposite
-  outer-turned false f z = ap (λ (x : ℤ). outerOf false f (signOf x)) (sym (one-*ℤ z))
-  outer-turned true f z = go (signOf z) ∙ ap (outerOf false f) (sym (signOf-opposite z) ∙ ap signOf (ap negℤ (sym (one-*ℤ z)) ∙ sym (*ℤ-neg-l (pos 1) z)))
+  outer-turned false f z = ap (λ (x : ℤ). outerOf false f (signOf x)) (sym (value-plus z))
+  outer-turned true f z = go (signOf z) ∙ ap (outerOf false f) (sym (signOf-opposite z) ∙ ap signOf (sym (value-minus z)))
     where
       go : (s : Sign) → outerOf true f s ≡ outerOf false f (opposite s)
       go minus = refl
@@ -144,7 +143,7 @@ module _ (l : List ℤ) (h : refusalOf l ≡ 0) where
     after-some p k f z = pos-zero (record { by = 0; is = refl }) (ap (λ (t : Bool). cond t (pos 1) (pos 0)) (sym (reflects-true (before-says p k) f)) ∙ z)
 
     not-self : (p : ℕ) → Pos (way p p) → ⊥
-    not-self p f = neg-nn (pos-cast (sym (ahead-back (pointOf l) eastward p p)) f) (pos-nn f)
+    not-self p f = pos-zero f (ahead-self (pointOf l) eastward p)
 
     fewer : (p q : ℕ) → q < n → Pos (way p q) → cnt n (after q) < cnt n (after p)
     fewer p q qn f = cnt-lt n q (after q) (after p)
@@ -166,7 +165,7 @@ module _ (l : List ℤ) (h : refusalOf l ≡ 0) where
           [],
           chain-at-last l b m p z,
           λ k kn f.
-              neg-nn (pos-cast (sym (ahead-back (pointOf l) eastward k p)) f) (subst (λ (j : ℕ). NN (way k j)) (sym e ∙ z) (best k kn f .1 (ap (λ (j : ℕ). T p j k) (sym e ∙ z) ∙ mul-zero s (turn-first (pointOf l p) (pointOf l k))))),
+              not-back (pointOf l) eastward p k f (subst (λ (j : ℕ). NN (way k j)) (sym e ∙ z) (best k kn f .1 (ap (λ (j : ℕ). T p j k) (sym e ∙ z) ∙ mul-zero s (turn-first (pointOf l p) (pointOf l k))))),
         )
         go on q e (i, qn, best) (no ne) =
             let f : Pos (way p q) = ⊎-elim (λ z. absurd (ne (e ∙ z))) (λ f. f) i in
