@@ -6,10 +6,11 @@
 --   corners-once                the shots of the south chain but its last, with those of the north chain but its first, are the corners, each once
 --   sides-many, corners-many    how many there are: (south length - 1) + (north length - 1)
 --   corners-least               three at least
+--   chain-few                   a chain has at most as many shots as the largest patch
 --   border-counts-chains        `border` gives that number
 use mathlib.Core.Path.{_≡_, refl, sym, _∙_, ap, subst}
 use mathlib.Core.Logic.{inl, inr, _↔_}
-use mathlib.Core.Bool.{true, false}
+use mathlib.Core.Bool.{Bool, true, false}
 use mathlib.Core.List.{List, _++_, dropLast, tail}
 use Prim.Native.Nat.{ℕ, _+_, _-_, _≤_}
 use native.Mathlib.Omega.{arith}
@@ -22,17 +23,19 @@ use Rattle.algebra.proofs.SignLaws.{value-nz}
 use Rattle.matroid.specs.Borders.{Side}
 use Rattle.matroid.specs.Chains.{Neighbours, Chain, pairsOf}
 use Rattle.matroid.proofs.ChainLaws.{wrapped-chain, chain-only, wrapped-sides, wrapped-corners, wrapped-three, pairs-many, front-many, back-many}
+use Rattle.shots.specs.Sizes.{shotsMost}
 use Rattle.shots.specs.Coordinates.{pointOf}
 use Rattle.shots.specs.Patch.{countOf}
 use Rattle.shots.specs.Tests.{refusalOf}
 use Rattle.shots.specs.Lines.{shotLines, SidePairs}
 use Rattle.shots.specs.Calls.{borderCallOf}
 use Rattle.shots.proofs.Orders.{eastward, before-ahead, ahead-apart}
-use Rattle.shots.proofs.Patch.{patch-bent}
+use Rattle.shots.proofs.Patch.{patch-few, patch-bent}
 use Rattle.shots.proofs.Promises.{shots-kept}
 use Rattle.shots.proofs.Sides.{border-counts-sides}
-use Rattle.outline.specs.Wrapping.{firstOf, southOf, northOf}
+use Rattle.outline.specs.Wrapping.{firstOf, chainOf, southOf, northOf}
 use Rattle.outline.specs.Lines.{CornerShots}
+use Rattle.outline.proofs.ChainSteps.{chain-short}
 use Rattle.outline.proofs.Wraps.{first-of-all, chain-wrapped}
 
 module _ (l : List ℤ) where
@@ -89,6 +92,10 @@ module _ (l : List ℤ) where
         let (c, is, w) = chain-wrapped l h false in
         let (c′, is′, w′) = chain-wrapped l h true in
         omega (arith, ap length is, ap length is′, wrapped-three n (pointOf l) eastward (ahead-apart l h) (patch-bent l h) (value plus) (value-nz plus (inl refl)) (firstOf l) (first-of-all l h) c c′ w w′)
+
+    pub chain-few : (north : Bool) → length (chainOf l north) ≤ shotsMost
+    unfolding chainOf
+    chain-few north = omega (arith, chain-short l north n (firstOf l), patch-few l h .1)
 
   pub border-counts-chains : (v : ℕ) → (borderCallOf l ≡ gives v) ↔ (Clear (shotLines l) × ((length (southOf l) - 1) + (length (northOf l) - 1) ≡ v))
   border-counts-chains v = (
