@@ -1,10 +1,11 @@
 /*
- * calls: every call of patch.h, with document 01's cases, the areas that E6 asks for, E1's patch and E5's chains. It prints each case that does not
- * answer as it should, then how many did.
+ * calls: every call of patch.h, with document 01's cases, the areas that E6 asks for, E1's patch, E5's chains and E2's shots of a controller. It prints
+ * each case that does not answer as it should, then how many did.
  * What a call lends it finds unchanged where it is refused.
  */
 #include "patch.h"
 
+#include <math.h>
 #include <stdio.h>
 #include <string.h>
 
@@ -79,6 +80,138 @@ static void places(void)
     IS(patch_border(square, 3, &count) == PATCH_COUNT && count == 4);
     count = 99;
     IS(patch_border(fence, N, &count) == 0 && count == 4);
+}
+
+/* what patch_take_runs is lent, with a place more than it may write */
+static int32_t taken[PATCH_COORDINATES_MOST + 1];
+static size_t taken_count;
+
+static uint8_t take(const uint8_t *units, size_t units_length, const double *values, size_t values_length)
+{
+    memset(taken, 0x11, sizeof taken);
+    taken_count = 99;
+    return patch_take_runs(units, units_length, values, values_length, taken, &taken_count);
+}
+
+/* the call gave these coordinates, 0 past them, and nothing behind */
+static int took(const int32_t *coordinates, size_t count)
+{
+    size_t same = 0;
+    while (same < PATCH_COORDINATES_MOST && taken[same] == (same < 2 * count ? coordinates[same] : 0))
+        same++;
+    return taken_count == count && same == PATCH_COORDINATES_MOST && taken[same] == 0x11111111;
+}
+
+static int taken_stays(void)
+{
+    size_t same = 0;
+    while (same <= PATCH_COORDINATES_MOST && taken[same] == 0x11111111)
+        same++;
+    return taken_count == 99 && same > PATCH_COORDINATES_MOST;
+}
+
+/* one shot of this unit, in front of two others in metres */
+static uint8_t take_first(uint8_t unit, double east, double north)
+{
+    const uint8_t units[] = {unit, 0, 0};
+    const double values[] = {east, north, 500, 500, 500, -500};
+    return take(units, 3, values, 6);
+}
+
+/* it becomes this place */
+static int becomes(uint8_t unit, double east, double north, int32_t x, int32_t y)
+{
+    const int32_t coordinates[] = {x, y, 500000, 500000, 500000, -500000};
+    return take_first(unit, east, north) == 0 && took(coordinates, 3);
+}
+
+/* it is refused so, and nothing is written */
+static int first_refused(uint8_t unit, double east, double north, uint8_t refusal)
+{
+    return take_first(unit, east, north) == refusal && taken_stays();
+}
+
+enum { METRES = 0, FEET = 1 };
+
+static void roundings(void)
+{
+    IS(becomes(METRES, 1.5, -2.25, 1500, -2250));
+    IS(becomes(METRES, 0, -0.0, 0, 0));
+    IS(becomes(METRES, -0.0004, 5e-324, 0, 0));
+    /* 0.0625 m is 62.5 mm */
+    IS(becomes(METRES, 0.0625, 0.1875, 62, 188));
+    IS(becomes(METRES, -0.0625, -0.1875, -62, -188));
+    /* the double of 0.0025 is more than it, but times 1000 the nearest double is 2.5 */
+    IS(becomes(METRES, 0.0025, -0.0025, 2, -2));
+    IS(becomes(METRES, 0.0005, 0.0015, 0, 2));
+    /* divided by 0.001 these would be less than a half */
+    IS(becomes(METRES, 0.0215, 0.0355, 22, 36));
+    IS(becomes(METRES, 0.0624999, 0.0625001, 62, 63));
+    /* 3937 feet are 1,200 m, and 3937 / 256 feet 4,687.5 mm */
+    IS(becomes(FEET, 984.25, -492.125, 300000, -150000));
+    IS(becomes(FEET, 15.37890625, 46.13671875, 4688, 14062));
+    IS(becomes(FEET, -15.37890625, -46.13671875, -4688, -14062));
+    IS(becomes(FEET, 1, -0.0, 305, 0));
+    /* the operations round to 88.5; one factor, or none of the roundings, would make 89 of it */
+    IS(becomes(FEET, 0.29035375, -0.29035375, 88, -88));
+    IS(becomes(2, 984.25, 1, 300000, 305));
+    IS(becomes(255, 984.25, 1, 300000, 305));
+    IS(becomes(METRES, 1000, -1000, 1000000, -1000000));
+    IS(becomes(METRES, 1000.0005, -1000.0005, 1000000, -1000000));
+    IS(becomes(FEET, 3280.833333, -3280.833333, 1000000, -1000000));
+}
+
+static void no_places(void)
+{
+    static const uint64_t signalling = 0x7ff0000000000001;
+    double worst;
+    memcpy(&worst, &signalling, sizeof worst);
+    IS(first_refused(METRES, 1000.0006, 0, PATCH_RANGE));
+    IS(first_refused(METRES, 0, -1000.001, PATCH_RANGE));
+    IS(first_refused(FEET, 3280.84, 0, PATCH_RANGE));
+    IS(first_refused(METRES, 4294967.296, 0, PATCH_RANGE)); /* 2^32 mm */
+    IS(first_refused(METRES, 0, 18446744073709551.616, PATCH_RANGE)); /* 2^64 mm */
+    IS(first_refused(METRES, 1e303, 0, PATCH_RANGE));
+    IS(first_refused(METRES, 0, -1e306, PATCH_NOT_FINITE));
+    IS(first_refused(FEET, 1e302, 0, PATCH_RANGE));
+    IS(first_refused(FEET, 2e302, 0, PATCH_NOT_FINITE)); /* though divided by 3937 it would be finite */
+    IS(first_refused(METRES, NAN, 0, PATCH_NOT_FINITE));
+    IS(first_refused(FEET, 0, -NAN, PATCH_NOT_FINITE));
+    IS(first_refused(METRES, worst, 0, PATCH_NOT_FINITE));
+    IS(first_refused(METRES, INFINITY, 0, PATCH_NOT_FINITE));
+    IS(first_refused(FEET, 0, -INFINITY, PATCH_NOT_FINITE));
+    IS(first_refused(METRES, 2000, NAN, PATCH_NOT_FINITE));
+    IS(first_refused(METRES, NAN, 2000, PATCH_NOT_FINITE));
+    IS(first_refused(METRES, 500.0004, 500, PATCH_EQUAL));
+    IS(first_refused(METRES, 500, 499.9995, PATCH_EQUAL));
+    IS(first_refused(METRES, 500, 0, PATCH_LINE));
+}
+
+static void controllers(void)
+{
+    static const uint8_t units[11] = {METRES, FEET, METRES, FEET};
+    static const double mixed[] = {1, 2, 984.25, 0, -1, 0.5, 0, -984.25};
+    static const int32_t places[] = {1000, 2000, 300000, 0, -1000, 500, 0, -300000};
+    static const double far_first[] = {2000, 0, NAN, 0, 0, 0}, far_last[] = {0, 0, NAN, 0, 2000, 0}, alike[] = {300, 0, 984.25, 0, 300, INFINITY};
+    static const double same[] = {300, 0, 984.25, 0, 0, 0}, straight[] = {0, 0, 984.25, 984.25, -1, -1, 492.125, 492.125};
+    static const double bowl[22] = {0, 0, 1, 1, 2, 4, 3, 9, 4, 16, 5, 25, 6, 36, 7, 49, 8, 64, 9, 81, 10, 100};
+    static const uint8_t metres[11];
+    IS(take(units, 4, mixed, 8) == 0 && took(places, 4));
+    IS(take(units, 3, mixed, 6) == 0 && took(places, 3));
+    IS(take(metres, 10, bowl, 20) == 0 && taken_count == 10 && taken[18] == 9000 && taken[19] == 81000 && taken[20] == 0x11111111);
+    IS(take(metres, 11, bowl, 22) == PATCH_COUNT && taken_stays());
+    IS(take(units, 2, mixed, 4) == PATCH_COUNT && taken_stays());
+    IS(take(units, 0, mixed, 0) == PATCH_COUNT && taken_stays());
+    IS(take(units, 3, mixed, 5) == PATCH_COUNT && taken_stays());
+    IS(take(units, 3, mixed, 8) == PATCH_COUNT && taken_stays());
+    IS(take(units, 4, mixed, 6) == PATCH_COUNT && taken_stays());
+    IS(take(metres, 4, far_first, 6) == PATCH_COUNT && taken_stays());
+    /* shot by shot */
+    IS(take(metres, 3, far_first, 6) == PATCH_RANGE && taken_stays());
+    IS(take(metres, 3, far_last, 6) == PATCH_NOT_FINITE && taken_stays());
+    IS(take(units, 3, alike, 6) == PATCH_NOT_FINITE && taken_stays());
+    IS(take(units, 3, same, 6) == PATCH_EQUAL && taken_stays());
+    IS(take(units, 4, straight, 8) == PATCH_LINE && taken_stays());
 }
 
 /* what patch_chains is lent */
@@ -233,6 +366,9 @@ int main(void)
 {
     patches();
     places();
+    roundings();
+    no_places();
+    controllers();
     outline();
     circuits();
     lists();

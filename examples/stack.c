@@ -17,6 +17,9 @@ static int passed, failed;
 /* a triangle with seven shots inside it: flips reach more surfaces than the table has rows, and it has more rows than a run keeps an index of */
 static const int32_t shots[] = {0, 0, 12000, 0, 6000, 9000, 3000, 1000, 9000, 1100, 5800, 7000, 5000, 2500, 7200, 2700, 6100, 4700, 6000, 1200};
 enum { N = sizeof shots / sizeof shots[0], ROWS = 5000 };
+/* ten shots as a controller gives them, by turns in metres and in feet */
+static const uint8_t units[N / 2] = {0, 1, 0, 1, 0, 1, 0, 1, 0, 1};
+static const double values[N] = {0.0001, 0.0002, 12.0625, 0.01, 6.0005, 9.3, 3.3, 1.1, -9.7, 1.1, 5.81, -7.7, 5.1, -2.5, 7.21, 2.71, -6.1, 4.7, 6.6, 1.23};
 
 static int8_t signs[PATCH_SHOTS_MOST];
 static int64_t signed_area;
@@ -32,6 +35,7 @@ static void orientation(void) { answer = patch_orientation(shots, N, 0, 1, 9, &s
 static void double_area(void) { answer = patch_double_area(shots, N, 0, 1, 9, &area); }
 static void cocircuit(void) { answer = patch_cocircuit(shots, N, 0, 9, signs); }
 static void border(void) { answer = patch_border(shots, N, &count); }
+static void take_runs(void) { answer = patch_take_runs(units, N / 2, values, N, back, &count); }
 static void chains(void) { answer = patch_chains(shots, N, south, sizeof south, north, sizeof north, &south_length, &north_length); }
 static void circuits(void) { answer = patch_circuits(shots, N, &count); }
 static void circuit(void) { answer = patch_circuit(shots, N, count - 1, &plus, &minus); }
@@ -117,6 +121,7 @@ int main(void)
     needs(double_area, "patch_double_area", 0);
     needs(cocircuit, "patch_cocircuit", 0);
     needs(border, "patch_border", 0);
+    needs(take_runs, "patch_take_runs", 0);
     needs(chains, "patch_chains", 0);
     needs(circuits, "patch_circuits", 0);
     needs(circuit, "patch_circuit", 0);

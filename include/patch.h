@@ -2,10 +2,11 @@
  * patch.h: the patch library for C.
  *
  * A patch is 3 to 10 levelled shots, each a place in whole millimetres. A surface over it is a list of triangles, triples of shot
- * numbers. The library tests whether a list is a triangulation of its shots, reads and writes both as records, and lists every
- * surface that flips reach from a first one. Each call is proved to answer as stated here, for every input (docs/PROMISES.md).
+ * numbers. The library tests whether a list is a triangulation of its shots, reads and writes both as records, makes shots of what a controller
+ * gives, and lists every surface that flips reach from a first one. Each call is proved to answer as stated here, for every input
+ * (docs/PROMISES.md).
  *
- * THE ANSWER. A call returns one number: 0 where it gives something, else the number that refuses it, 1 to 15. What it gives is never
+ * THE ANSWER. A call returns one number: 0 where it gives something, else the number that refuses it, 1 to 16. What it gives is never
  * in that number: it is written to places that the caller lends (area, count, list, ...). So 0 and a refusal cannot be
  * mistaken for a value. Where several rules are broken, the refusals are tested in the order written at the call.
  *
@@ -18,7 +19,8 @@
  *
  * WHAT THE CALLER OWES. A pointer to as many elements as the length beside it says, or as the array has that is written here; aligned
  * for its type; not null, not even with a length of 0; and no two of the lent places overlap where one of them is written to. Every value in
- * that memory is allowed: whatever is wrong with it gets its number.
+ * that memory is allowed: whatever is wrong with it gets its number. For patch_take_runs the processor's doubles are also as a
+ * C program finds them: rounded to the nearest, without traps.
  *
  * Link: libpatch.a, for x86-64 (README.md).
  */
@@ -48,8 +50,8 @@ extern "C" {
 
 enum patch_refusal {
     PATCH_GIVEN = 0,      /* no refusal */
-    PATCH_COUNT = 1,      /* the run of coordinates is odd, or has not 3 to 10 shots */
-    PATCH_RANGE = 2,      /* a coordinate is not from -1,000,000 to 1,000,000 */
+    PATCH_COUNT = 1,      /* the run of coordinates is odd, or has not 3 to 10 shots, or a controller's shots have not two values each */
+    PATCH_RANGE = 2,      /* a coordinate, in whole millimetres, is not from -1,000,000 to 1,000,000 */
     PATCH_EQUAL = 3,      /* two shots are equal */
     PATCH_LINE = 4,       /* all shots are on one line */
     PATCH_LENGTH = 5,     /* a record's bytes and its length disagree */
@@ -61,7 +63,8 @@ enum patch_refusal {
     PATCH_ROOM = 11,      /* no room: in a table for a row, in a buffer for a record or a chain */
     PATCH_CIRCUIT = 12,   /* there is no circuit of this number */
     PATCH_NO_FLIP = 13,   /* there is no flip along this circuit */
-    PATCH_WALK = 15       /* no walk has this record: rows 0 or beyond the table, or a step number above rows times circuits */
+    PATCH_WALK = 15,      /* no walk has this record: rows 0 or beyond the table, or a step number above rows times circuits */
+    PATCH_NOT_FINITE = 16 /* a coordinate from a controller, or what its factors make of it, is not finite */
 };
 
 /* ---- what is lent
@@ -101,6 +104,17 @@ uint8_t patch_cocircuit(const int32_t *shots, size_t length, size_t i, size_t j,
 /* *count: the sides of the patch. A side is a pair of shots with no two others on opposite sides of their line, and every other shot on that
    line between the two: shots along a straight fence make one side. Refused: 1 2 3 4. */
 uint8_t patch_border(const int32_t *shots, size_t length, size_t *count);
+
+/* ---- shots from a controller: doubles, in metres or US survey feet, made into whole millimetres */
+
+/* shots: the coordinates, x east and y north of each shot, 0 past the last; *count: the number of shots, so the run has 2 * *count numbers. units: a
+   byte for each shot, 0 metres, anything else US survey feet. values: east then north of each shot, so two for each byte; every double is allowed.
+   Metres are multiplied by 1000; feet are multiplied by 1,200,000 and then divided by 3937; each operation is rounded once, as the processor's double
+   does. Of that double the nearest whole number of millimetres is taken, exactly: a half goes to the even one, and negative zero is 0. Refused: 1 (not
+   3 to 10 units, or not two values for each), then shot by shot 16 (east, north or the answer of an operation is not finite) 2 (a whole number is out
+   of range), then 3 4. */
+uint8_t patch_take_runs(const uint8_t *units, size_t units_length, const double *values, size_t values_length, int32_t shots[PATCH_COORDINATES_MOST],
+                        size_t *count);
 
 /* ---- outline: the corners of the patch, the ends of its sides, as two chains of shot numbers */
 

@@ -8,6 +8,7 @@ to a case stands here.
 """
 
 import itertools
+import math
 import random
 import struct
 import subprocess
@@ -30,6 +31,15 @@ LATE_START = [(0, 0), (4, 0), (2, 0), (6, 0), (1, 3), (-2, 0)]
 EXTREMES = [(-LIMIT, -LIMIT), (LIMIT, -LIMIT), (LIMIT, LIMIT), (-LIMIT, LIMIT), (0, 0), (1, 0), (LIMIT - 1, LIMIT)]
 DECAGON = [(0, 0), (1, -2), (3, -3), (5, -2), (6, 0), (6, 1), (5, 3), (3, 4), (1, 3), (0, 1)]
 PARABOLA = [(x, x * x) for x in range(-4, 6)]
+
+# The units of a shot from a controller; any byte but 0 is feet.
+METRES, FEET = 0, 1
+LARGEST, SMALLEST, LEAST_NORMAL = sys.float_info.max, 5e-324, sys.float_info.min
+# East and north as a field book has them, in either unit.
+BOOK = [(0.0, 0.0), (125.5, 0.32), (124.87, 98.41), (0.75, 101.023), (62.3, 48.905)]
+BOOK += [(-17.08, 33.333), (91.6, -40.125), (12.0005, 77.7), (-250.004, -61.5), (199.999, 150.01)]
+# The patterns of NaNs, quiet and not, with a few bits and with all, of both signs.
+NANS = [0x7FF8 << 48, 0xFFF8 << 48, (0x7FF0 << 48) + 1, (0xFFF0 << 48) + 1, 0x7FF4 << 48, 2**63 - 1, U64]
 
 # A run of coordinates for each way in which shots are refused, and for several ways at once.
 BAD_SHOTS = [
@@ -159,6 +169,85 @@ def shuffled(patch):
 def turned(patch, quarters):
     """Turned to the left, so that each side stands south, east, north or west in its turn."""
     return turned([(-y, x) for x, y in patch], quarters - 1) if quarters else patch
+
+
+# Shots from a controller, each as (unit, east, north)
+
+
+def pattern(value):
+    """The 64-bit pattern of a float; a number that is a pattern already, such as a NaN's, stays."""
+    return value if isinstance(value, int) else struct.unpack(">Q", struct.pack(">d", value))[0]
+
+
+def stepped(value, steps):
+    """The float that many floats farther from 0."""
+    return struct.unpack(">d", struct.pack(">Q", pattern(value) + steps))[0]
+
+
+def runs(shots):
+    """Their units, and their values as patterns."""
+    return [unit for unit, *_ in shots], [pattern(value) for _, *position in shots for value in position]
+
+
+def take_runs_case(shots):
+    case("take_runs", *runs(shots))
+
+
+def take_case(shots, behind=()):
+    """The same as ten shots and a count, with other shots behind those that count."""
+    case("take", *runs([*shots, *behind]), len(shots))
+
+
+def either_case(shots):
+    rng.choice([take_runs_case, take_case])(shots)
+
+
+def both_cases(shots):
+    take_runs_case(shots)
+    take_case(shots)
+
+
+def in_units(positions, units=(METRES,)):
+    """The positions in these units, over and over."""
+    return [(unit, *position) for position, unit in zip(positions, itertools.cycle(units))]
+
+
+def scaled(unit, value):
+    """What is made of a value before it is made whole."""
+    return value * 1000 if unit == METRES else value * 1200000 / 3937
+
+
+def source(unit, millimetres):
+    """A positive float that is scaled to this number, or as near to it as any."""
+    middle = millimetres / 1000 if unit == METRES else millimetres * 3937 / 1200000
+    return min((stepped(middle, k) for k in range(-8, 9)), key=lambda value: abs(scaled(unit, value) - millimetres))
+
+
+def greatest(holds):
+    """The greatest float for which this holds, where it holds from 0 up to there and no farther."""
+    low, high = 0, pattern(math.inf)
+    while high - low > 1:
+        middle = (low + high) // 2
+        low, high = (middle, high) if holds(stepped(0.0, middle)) else (low, middle)
+    return stepped(0.0, low)
+
+
+def signed(values):
+    """Each with any sign."""
+    return [rng.choice([-1, 1]) * value for value in values]
+
+
+def in_pairs(values):
+    return list(zip(values[::2], values[1::2]))
+
+
+def contested(unit, value):
+    """Whether other ways to work it out, in another order or rounded once alone, come to another whole number."""
+    factor, divisor = (1000, 1) if unit == METRES else (1200000, 3937)
+    over, under = value.as_integer_ratio()
+    others = [round(value * (factor / divisor)), round(value / divisor * factor), round(value / (divisor / factor))]
+    others.append((2 * factor * over + divisor * under) // (2 * divisor * under))
+    return any(other != round(scaled(unit, value)) for other in others)
 
 
 # Groups of cases
@@ -740,13 +829,158 @@ def part_cases():
             case("north_part", south, north, *lengths)
 
 
+def intake_cases():
+    remark("intake: patches in metres")
+    for patch in [TRIANGLE, SQUARE, PENTAGON, EXTREMES]:
+        both_cases(in_units([(x / 1000, y / 1000) for x, y in patch]))
+    remark("intake: a field book in metres, in feet and in both, with several bytes for feet")
+    for units in [[METRES], [FEET], [METRES, FEET], [2, METRES, 255, FEET, 128]]:
+        either_case(in_units(BOOK[:5], units))
+        both_cases(in_units(BOOK, units))
+    remark("intake: 3 to 10 shots of the ten")
+    for n in range(3, 11):
+        shots = in_units(shuffled(BOOK), [FEET, METRES, 7])
+        take_case(shots[:n], shots[n:])
+
+
+def half_cases():
+    remark("intake: halves, and the floats before and after them")
+    for unit, low, steps in itertools.product([METRES, FEET], [0, 1000, LIMIT - 20], [-1, 0, 1]):
+        values = [stepped(source(unit, low + i + 0.5), steps) for i in range(20)]
+        either_case(in_units(in_pairs(signed(values)), [unit]))
+    for low in [0, 500, 15_980]:
+        either_case(in_units(in_pairs(signed([(low + i) / 16 for i in range(1, 21)]))))
+    remark("intake: halves as decimals, which are not quite halves")
+    for low in [0, 20, 1000, 32_767, 654_321]:
+        either_case(in_units(in_pairs(signed([(2 * (low + i) + 1) / 2000 for i in range(20)]))))
+    remark("intake: floats that another way of working them out takes to another number")
+    for unit, most in itertools.product([METRES, FEET], [50, LIMIT // 7, LIMIT - 1]):
+        values = []
+        while len(values) < 20:
+            value = stepped(source(unit, rng.randint(0, most) + 0.5), rng.randint(-2, 2))
+            values += [value] if contested(unit, value) else []
+        either_case(in_units(in_pairs(signed(values)), [unit]))
+    remark("intake: both zeros, and floats that are next to nothing")
+    tiny = [0.0, -0.0, SMALLEST, LEAST_NORMAL - SMALLEST, LEAST_NORMAL, 1e-300, 1e-20, 0.0001]
+    for unit, value in itertools.product([METRES, FEET], tiny):
+        either_case(in_units([(value, -value), (1.0, value), (-value, -1.0)], [unit]))
+
+
+def far_cases():
+    remark("intake: the last floats in the range of coordinates, and the first out of it")
+    for unit, sign, swap in itertools.product([METRES, FEET], [1, -1], [1, -1]):
+        last = greatest(lambda value: scaled(unit, value) <= LIMIT + 0.5)
+        for value in [last, stepped(last, 1)]:
+            either_case(in_units([(0.0, 0.0), (1.0, 1.0), (sign * value, 0.5)[::swap]], [unit]))
+    remark("intake: far out, also where fewer bits would bring it back")
+    far = [LIMIT + 1, 2**31 - 1, 2**31, 2**32, 2**32 + 5, 2**48 + 3, 2**52 + 1, 2**53, 2**63, 2**64, 2**64 + 2**12]
+    for millimetres in [*far, 1e30]:
+        value = rng.choice([-1, 1]) * source(METRES, millimetres)
+        either_case(in_units([(0.0, 0.0), (value, 0.0), (0.0, 1.0)]))
+
+
+def not_finite_cases():
+    remark("intake: infinities and NaNs")
+    for unit, value in itertools.product([METRES, FEET], [math.inf, -math.inf, *NANS]):
+        shots = in_units(BOOK[: rng.choice([3, 3, 4])], [unit])
+        shots[rng.randrange(len(shots))] = (unit, *rng.sample([value, 0.5], 2))
+        either_case(shots)
+    remark("intake: the last floats with finite answers, and the first without")
+    for unit in [METRES, FEET]:
+        last = greatest(lambda value: math.isfinite(scaled(unit, value)))
+        for value in [last, stepped(last, 1), -last, -stepped(last, 1)]:
+            either_case(in_units([(0.0, 0.0), (1.0, 1.0), rng.sample([value, 0.5], 2)], [unit]))
+    remark("intake: huge floats; a product may be too large although the quotient would not be")
+    for unit, value in itertools.product([METRES, FEET], [1e302, 1.5e302, 1e303, LARGEST, -LARGEST]):
+        either_case(in_units([(0.0, 0.0), (value, 1.0), (1.0, 0.0)], [unit]))
+    remark("intake: several faults, in one shot and in several")
+    nan, far = NANS[0], 5000.0
+    for positions in [
+        [(0.0, 0.0), (far, nan), (1.0, 0.0)],
+        [(0.0, 0.0), (nan, far), (1.0, 0.0)],
+        [(0.0, 0.0), (far, 1.0), (1.0, math.inf)],
+        [(0.0, 0.0), (1.0, far), (nan, nan)],
+        [(0.0, 0.0), (-math.inf, 1.0), (far, 1.0)],
+        [(far, far), (far, nan), (nan, far)],
+        [(nan, nan), (nan, nan), (nan, nan)],
+        [(far, far), (far, far), (far, far)],
+        [(1.0, 1.0), (1.0, 1.0), (2.0, 2.0), (2.0, nan)],
+        [(1.0, 1.0), (1.0, 1.0), (2.0, 2.0), (2.0, -far)],
+        [(0.0, 0.0), (1.0, 1.0), (2.0, 2.0), (LARGEST, 3.0)],
+        [(0.0, 0.0), (1e301, 1.0), (LARGEST, 1.0)],
+        [(0.0, 0.0), (1.0, 1.0), (1e301, LARGEST)],
+    ]:
+        either_case(in_units(positions, [rng.choice([METRES, FEET])]))
+    for east in [1000.0005, -1000.001]:
+        either_case(in_units([(0.0, 0.0), (east, 1.0), (nan, 1.0)]))
+    remark("intake: shots behind those that count are not looked at")
+    behind = [(nan, nan), (far, 0.0), (math.inf, 1.0), BOOK[0], (0.0, LARGEST), (far, nan), (-math.inf, far)]
+    for n, position in zip(range(3, 10), behind):
+        take_case(in_units(BOOK[:n], [METRES, FEET]), in_units([position] * (10 - n), [FEET, METRES]))
+
+
+def intake_refusal_cases():
+    remark("intake: 1, by the number of shots and by the lengths of the runs")
+    for n in [0, 1, 2, 11, 12, 32]:
+        both_cases(in_units([*BOOK, *BOOK, *BOOK, *BOOK][:n], [METRES, FEET]))
+    for n in [2, 11]:
+        both_cases(in_units([(NANS[0], LARGEST)] * n))
+    units, values = runs(in_units(BOOK))
+    for sizes in [(3, 0), (3, 3), (3, 5), (3, 7), (3, 8), (4, 6), (2, 6), (0, 6), (0, 1), (10, 19), (9, 20), (11, 20)]:
+        case("take_runs", (units + [FEET])[: sizes[0]], values[: sizes[1]])
+    for size in [256 + 3, 65_536 + 3, 65_600]:
+        case("take_runs", [METRES] * size, values[:6])
+    case("take_runs", [METRES] * 3, [NANS[0]] * 5)
+    for count in [0, 2, 11, 256 + 3, 2**32 + 3, 2**63 + 3, U64]:
+        case("take", units, values, count)
+    remark("intake: arrays that the runs do not fill, or more than fill")
+    case("take", [], [], 3)
+    case("take", [FEET], values[2:8], 3)
+    case("take", [FEET] * 5, values[2:9], 4)
+    case("take", [FEET] * 4, values[2:9], 5)
+    case("take", [*units, 9, 9], [*values, *NANS], 10)
+    case("take", [*units, 9, 9], [*values, *NANS], 11)
+    case("take", [METRES] * 65_600, values, 7)
+    remark("intake: 3, where shots are equal once they are whole")
+    for unit, steps in itertools.product([METRES, FEET], [0, 1, -1]):
+        half, whole = stepped(source(unit, 2.5), steps), source(unit, 2.0)
+        either_case(in_units([(1.0, half), (0.0, 0.0), (3.0, 1.0), (1.0, whole)], [unit]))
+    for metres, feet in [(1.2, 3.937), (304.8006, 1000.0), (0.0, -0.0), (-0.0003, 0.001), (0.305, 1.0), (0.304, 1.0)]:
+        either_case([(METRES, metres, 1.2), (FEET, 0.0, 0.0), (FEET, feet, 3.937), (METRES, -1.0, 0.0)])
+    remark("intake: 4, where shots are on one line once they are whole")
+    either_case(in_units([(0.0, 0.0), (0.5, 0.5), (1.0, 1.0)]))
+    for off in [0.0005, 0.0006]:
+        either_case(in_units([(0.0, 0.0004), (0.5, -0.0004), (1.0, 0.0), (-0.3, off)]))
+    either_case(in_units([(3.937 * i, 39.37 * i) for i in range(5)], [FEET]))
+    for north in [3.937 * 6, 3.94 * 6]:
+        either_case([(FEET, 0.0, 0.0), (METRES, 1.2, 2.4), (FEET, 3.937 * 3, north), (METRES, -1.2, -2.4)])
+
+
+def random_intake_cases():
+    remark("intake: random shots, mixed, as a controller gives them")
+    for n in [*range(3, 11)] * 2:
+        size, places = rng.choice([1, 50, 1000]), rng.choice([2, 3, 4, 17])
+        reach = {METRES: size, FEET: 3 * size}
+        value = lambda unit: round(rng.uniform(-reach[unit], reach[unit]), places)
+        either_case([(unit, value(unit), value(unit)) for unit in rng.choices([METRES, FEET], k=n)])
+    remark("intake: random patterns among others: any, next to nothing, and from 0.00003 to 512")
+    for n in [*range(3, 11)] * 2:
+        shots = in_units(shuffled(BOOK)[:n], rng.choices([METRES, FEET, rng.randrange(256)], k=n))
+        for _ in range(rng.randint(1, 3)):
+            low, high = rng.choice([(0, 2**64), (0, 0x3F0 << 52), (0x3F0 << 52, 0x408 << 52)])
+            position = [rng.randrange(low, high), rng.randrange(0xBF0 << 52, 0xC08 << 52)]
+            shots[rng.randrange(n)] = (rng.choice([METRES, FEET]), *rng.sample(position, 2))
+        either_case(shots)
+
+
 def main():
     for group in [
         document_cases, run_cases, shot_cases, extreme_cases, circuit_cases, list_cases, changed_surface_cases,
         folded_cases, placing_cases, flip_cases, random_patch_cases, refused_shot_cases, refused_list_cases,
         start_cases, walk_record_cases, table_cases, random_table_cases, run_length_cases, capacity_cases,
         patch_record_cases, surface_record_cases, buffer_cases, result_cases, side_cases, orientation_cases, rank_cases,
-        outline_cases, random_outline_cases, outline_buffer_cases, part_cases,
+        outline_cases, random_outline_cases, outline_buffer_cases, part_cases, intake_cases, half_cases, far_cases,
+        not_finite_cases, intake_refusal_cases, random_intake_cases,
     ]:
         group()
 

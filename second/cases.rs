@@ -1,5 +1,6 @@
 //! Run cases: reads one case from its line, makes the call, and gives the line to print.
 
+use crate::intake;
 use crate::outline;
 use crate::patch::{Patch, Refusal};
 use crate::records;
@@ -53,7 +54,7 @@ fn shown_table(table: &[u64]) -> String {
     shown(&items)
 }
 
-/// A run with zeros after it up to a fixed length.
+/// A run with zeros after it up to a fixed length, or cut off there.
 fn padded<T: Clone + From<bool>>(mut run: Vec<T>, length: usize) -> Vec<T> {
     run.resize(length, false.into());
     run
@@ -76,7 +77,8 @@ pub fn answer(case: &str) -> Option<String> {
         "chains" => chains_answer(&mut arguments),
         "south_part" | "north_part" => part_answer(call, &mut arguments),
         "cocircuit" => cocircuit_answer(&mut arguments),
-        "read_patch" => read_patch_answer(&arguments.run::<u8>()),
+        "read_patch" => coordinates_answer(records::read_patch(&arguments.run::<u8>())),
+        "take" | "take_runs" => coordinates_answer(taken(call, &mut arguments)),
         _ => plain_answer(call, &mut arguments).unwrap_or_else(refused),
     };
     assert!(arguments.0.is_empty(), "more arguments than the call takes: {case}");
@@ -142,8 +144,17 @@ fn cocircuit_answer(arguments: &mut Arguments) -> String {
     format!("{answer} {}", shown(&padded(signs, 10)))
 }
 
-fn read_patch_answer(record: &[u8]) -> String {
-    let (answer, coordinates) = match records::read_patch(record) {
+fn taken(call: &str, arguments: &mut Arguments) -> Result<Vec<i32>, Refusal> {
+    let (units, values) = (arguments.run::<u8>(), arguments.run::<u64>());
+    if call == "take" {
+        intake::take(&padded(units, 10), &padded(values, 20), arguments.number())
+    } else {
+        intake::take_runs(&units, &values)
+    }
+}
+
+fn coordinates_answer(given: Result<Vec<i32>, Refusal>) -> String {
+    let (answer, coordinates) = match given {
         Ok(coordinates) => (format!("shots {}", coordinates.len() / 2), coordinates),
         Err(refusal) => (refused(refusal), vec![]),
     };

@@ -1,10 +1,12 @@
 //! The second program: `patchwalk` and run cases by documents 01 and 02 alone, and by other means than
-//! the library (sets of triples, exact geometry, a plain search), so that the two can be held side by side.
+//! the library (sets of triples, exact geometry, a plain search, doubles as whole numbers), so that the two can be held
+//! side by side.
 //!
 //! `second patchwalk < record` prints the walk of a patch record; `second runcases < stream` prints each case's line.
 
 mod cases;
 mod geometry;
+mod intake;
 mod outline;
 mod patch;
 mod records;

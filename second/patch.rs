@@ -4,7 +4,7 @@ use crate::geometry::{cross, opposed, turn, Homogeneous};
 use std::cell::OnceCell;
 use std::collections::BTreeSet;
 
-/// Document 01's refusals, each with its number; 14 is none since request E9.
+/// Document 01's refusals, each with its number; 14 is none since request E9, and 16 is request E2's.
 #[derive(Clone, Copy, Debug, PartialEq)]
 pub enum Refusal {
     ShotCount = 1,
@@ -21,10 +21,11 @@ pub enum Refusal {
     CircuitNumber = 12,
     NoFlip = 13,
     WalkRecord = 15,
+    NotFinite = 16,
 }
 
 pub const SHOT_COUNTS: std::ops::RangeInclusive<usize> = 3..=10;
-const LIMIT: i32 = 1_000_000;
+pub const LIMIT: i32 = 1_000_000;
 
 /// Three shots in increasing order.
 pub type Triple = [usize; 3];

@@ -12,6 +12,7 @@
 --   chain-stops, chain-goes                 what a first part, known by its answer, says of a longer chain
 --   chain-ends      a chain ends in its value, or in a number that is not 0
 --   refusal-keeps   where the number of the first broken rule is 0, the rules are kept
+--   refusal-stops, refusal-goes             that number of rules joined: of the first part where it is not 0, else of the second
 --   numbered-append rules joined have numbers that are not 0
 --   Unbroken rs     no rule of rs is broken
 --   unbroken-gives, gives-unbroken          so it is exactly where a chain gives its value
@@ -207,6 +208,23 @@ unbroken-refusal (r ∷ rs) u = rw (u .0) (unbroken-refusal rs (u .1))
 pub refusal-unbroken : (rs : List Rule) → Numbered rs → refusal rs ≡ 0 → Unbroken rs
 refusal-unbroken [] p e = tt
 refusal-unbroken (r ∷ rs) p e = let k = refusal-keeps r rs (p .0) e in (k .0, refusal-unbroken rs (p .1) (k .1))
+
+pub refusal-stops : (rs ss : List Rule) → (refusal rs ≡ 0 → ⊥) → refusal rs ≡ refusal (rs ++ ss)
+unfolding refusal
+refusal-stops [] ss h = absurd (h refl)
+refusal-stops (r ∷ rs) ss h = go (r .broken) h (refusal-stops rs ss)
+  where
+    go : (b : Bool) → (cond b (r .number) (refusal rs) ≡ 0 → ⊥) → ((refusal rs ≡ 0 → ⊥) → refusal rs ≡ refusal (rs ++ ss)) → cond b (r .number) (refusal rs) ≡ cond b (r .number) (refusal (rs ++ ss))
+    go true h ih = refl
+    go false h ih = ih h
+
+unbroken-goes : (rs ss : List Rule) → Unbroken rs → refusal (rs ++ ss) ≡ refusal ss
+unfolding refusal
+unbroken-goes [] ss u = refl
+unbroken-goes (r ∷ rs) ss u = rw (u .0) (unbroken-goes rs ss (u .1))
+
+pub refusal-goes : (rs ss : List Rule) → Numbered rs → refusal rs ≡ 0 → refusal (rs ++ ss) ≡ refusal ss
+refusal-goes rs ss p e = unbroken-goes rs ss (refusal-unbroken rs p e)
 
 pub unbroken-append : (rs ss : List Rule) → Unbroken rs → Unbroken ss → Unbroken (rs ++ ss)
 unbroken-append [] ss u v = v

@@ -2,16 +2,18 @@
 --
 --   ends-1, ends-2, ends-3, ends-5    what one, two, three or five equations with the same right sides determine; a contract for C has no other parts
 --   left-one            the same of what a call of the walk leaves: its number, the record and the whole table
---   patch-accept-one, patch-orientation-one, patch-double-area-one, patch-cocircuit-one, patch-border-one, patch-chains-one, patch-circuits-one, patch-circuit-one, patch-test-one, patch-placing-one, patch-flip-one, patch-start-one, patch-step-one, patch-run-one,
---   patch-read-patch-one, patch-write-patch-one, patch-read-surface-one, patch-write-surface-one    the eighteen calls, each with the equations of its contract: r and r′ are returned, u and u′ left
+--   patch-accept-one, patch-orientation-one, patch-double-area-one, patch-cocircuit-one, patch-border-one, patch-chains-one, patch-take-runs-one, patch-circuits-one, patch-circuit-one, patch-test-one, patch-placing-one, patch-flip-one, patch-start-one, patch-step-one, patch-run-one,
+--   patch-read-patch-one, patch-write-patch-one, patch-read-surface-one, patch-write-surface-one    the nineteen calls, each with the equations of its contract: r and r′ are returned, u and u′ left
 --
 -- The calls of the rooms have theirs in their own Promises.
 use mathlib.Core.Path.{_≡_, sym, _∙_, ap}
 use mathlib.Core.List.{List}
 use Prim.Native.Nat.{ℕ}
 use lib.IntN.{ℤ}
+use lib.Ieee.{Float}
 use Rattle.shots.specs.Calls.{acceptOf, orientationOf, doubleAreaOf, cocircuitOf, borderCallOf}
 use Rattle.outline.specs.Calls.{chainsOf}
+use Rattle.intake.specs.Calls.{takeRunsOf}
 use Rattle.circuits.specs.Calls.{countCallOf, circuitCallOf}
 use Rattle.lists.specs.Calls.{testOf}
 use Rattle.surfaces.specs.Calls.{placingOf, flipOf}
@@ -110,3 +112,8 @@ pub patch-read-patch-one : (b : List ℕ) (s : List ℤ) (c : ℕ) {r r′ v v�
     → (r ≡ numberOf (readPatchOf b .answer)) × (u ≡ besideAt s (readPatchOf b .answer) (readPatchOf b .coordinates)) × (v ≡ leftAt c (readPatchOf b .answer))
     → (r′ ≡ numberOf (readPatchOf b .answer)) × (u′ ≡ besideAt s (readPatchOf b .answer) (readPatchOf b .coordinates)) × (v′ ≡ leftAt c (readPatchOf b .answer)) → (r ≡ r′) × (u ≡ u′) × (v ≡ v′)
 patch-read-patch-one b s c = ends-3
+
+pub patch-take-runs-one : (b : List ℕ) (f : List Float) (s : List ℤ) (c : ℕ) {r r′ v v′ : ℕ} {u u′ : List ℤ}
+    → (r ≡ numberOf (takeRunsOf b f .answer)) × (u ≡ besideAt s (takeRunsOf b f .answer) (takeRunsOf b f .coordinates)) × (v ≡ leftAt c (takeRunsOf b f .answer))
+    → (r′ ≡ numberOf (takeRunsOf b f .answer)) × (u′ ≡ besideAt s (takeRunsOf b f .answer) (takeRunsOf b f .coordinates)) × (v′ ≡ leftAt c (takeRunsOf b f .answer)) → (r ≡ r′) × (u ≡ u′) × (v ≡ v′)
+patch-take-runs-one b f s c = ends-3

@@ -3,8 +3,8 @@
 --   chain-apart       a chain whose rules have numbers that are not 0 is apart: its answer is no refusal by the number 0
 --   ground-step-apart, ground-run-apart    so are a step and a run, over any ground whose first rules have such numbers and whose flip is apart
 --   ground-start-apart                     so is a start, where the test of its list is apart
---   accept-apart, orientation-apart, double-area-apart, cocircuit-apart, border-apart, chains-apart, count-apart, circuit-apart, test-apart, placing-apart, flip-apart,
---   start-apart, step-apart, run-apart, read-patch-apart, write-patch-apart, read-surface-apart, write-surface-apart    so are the eighteen calls
+--   accept-apart, orientation-apart, double-area-apart, cocircuit-apart, border-apart, chains-apart, take-runs-apart, count-apart, circuit-apart, test-apart, placing-apart, flip-apart,
+--   start-apart, step-apart, run-apart, read-patch-apart, write-patch-apart, read-surface-apart, write-surface-apart    so are the nineteen calls
 --
 -- Source: document 01, "Refusal numbers".
 use mathlib.Core.Path.{_≡_, refl, sym}
@@ -15,16 +15,22 @@ use native.Mathlib.Omega.{arith}
 use lib.Dec.{eqb}
 use lib.ListN.{length, getD}
 use lib.IntN.{ℤ, natAbs}
+use lib.Ieee.{Float}
 use Rattle.algebra.specs.Answer.{Answer, gives, refuses, onValue, Rule, chain, Numbered}
 use Rattle.algebra.specs.Words.{rowOf}
 use Rattle.algebra.proofs.AnswerLaws.{given-refused, chain-ends, numbered-append}
 use Rattle.reach.specs.Walks.{Ground, WalkRecord, started, Reply, made, done, Landing, onlyIf, capacityOf, seenIn, walkRules}
 use Rattle.reach.specs.Walks.{storeOf, afterFlip, tryOf, stepOf, goOn, stepsOf, runOf, begin, startOf}
 use Rattle.shots.specs.Patch.{countOf}
-use Rattle.shots.specs.Tests.{shotRules, placeRules}
+use Rattle.shots.specs.Tests.{shapeRules, shotRules, placeRules}
 use Rattle.shots.specs.Calls.{acceptOf, shotsRule, orientationOf, doubleAreaOf, pairRule, cocircuitOf, borderCallOf}
 use Rattle.shots.proofs.Chains.{shots-numbered}
 use Rattle.outline.specs.Calls.{roomsRule, chainsOf}
+use Rattle.intake.specs.Scaling.{surveyFoot, millimetresOf}
+use Rattle.intake.specs.Tests.{turnRules}
+use Rattle.intake.specs.Runs.{shotsIn, runsRule}
+use Rattle.intake.specs.Calls.{takeRunsOf}
+use Rattle.intake.proofs.TurnLaws.{turns-numbered}
 use Rattle.circuits.specs.Calls.{countCallOf, circuitRule, circuitCallOf}
 use Rattle.lists.specs.Tests.{listRules}
 use Rattle.lists.specs.Calls.{testOf}
@@ -198,3 +204,10 @@ unfolding readPatchOf
 read-patch-apart b =
     let rs = placeRules (coordinatesOf b) in
     chain-apart (patchRules b) (getD b 3 0) (numbered-append (patchFrame b) rs (patch-numbered b) (shots-numbered (coordinatesOf b) .1))
+
+pub take-runs-apart : (u : List ℕ) (v : List Float) → Apart (takeRunsOf u v .answer)
+unfolding takeRunsOf
+take-runs-apart u v =
+    let l = shotsIn u v in
+    let m = millimetresOf surveyFoot l in
+    chain-apart (runsRule u v ∷ (turnRules surveyFoot l ++ shapeRules m)) (length u) (omega arith, numbered-append (turnRules surveyFoot l) (shapeRules m) (turns-numbered surveyFoot l) (shots-numbered m .1 .1))

@@ -2,6 +2,7 @@
 --
 --   returned            the number that is returned, and what is left at a lent place that held x
 --   returned-beside     the same of what is given beside the answer
+--   returned-patch      the number of a call that hands out shots, the coordinates at a lent place that held x, and the number of shots at one that held n
 --   returned-list       the same of a list that is given and then written, for the words that stood there
 --   returned-writing    the number of a writer, its buffer t, and what is left at the lent place of its count
 --   returned-landing    all that a call of the walk leaves
@@ -10,11 +11,15 @@ use mathlib.Core.Path.{_≡_, _∙_, ap}
 use mathlib.Core.List.{List}
 use Prim.Native.Nat.{ℕ}
 use lib.ListN.{length}
+use lib.IntN.{ℤ}
 use Rattle.algebra.specs.Answer.{Answer, gives}
 use Rattle.algebra.specs.Words.{setRow}
 use Rattle.algebra.proofs.AnswerLaws.{in-case}
 use Rattle.algebra.proofs.WordLaws.{row-only}
 use Rattle.reach.specs.Walks.{Reply, Landing, leaves}
+use Rattle.shots.specs.Calls.{PatchRead, readPatched, readPatch}
+use Rattle.shots.specs.declared.Patched.{Patched}
+use Rattle.shots.specs.declared.Handed.{Handed}
 use Rattle.triples.specs.Sizes.{wordCount}
 use Rattle.walks.specs.Calls.{readWalk}
 use Rattle.walks.specs.declared.Walk.{Walk}
@@ -30,6 +35,14 @@ module _ {E A : Type 0} (read : E → Answer A) where
 
   pub returned-beside : {B : Type 0} (x : B) {r s : E} {a : Answer A} {y b : B} → r ≡ s → read r ≡ a → y ≡ b → (numberOf (read s) ≡ numberOf a) × (besideAt x (read s) y ≡ besideAt x a b)
   returned-beside x e p z = let q = in-case read e p in (ap numberOf q, λ i. besideAt x (q i) (z i))
+
+-- for what the call gave, in the case s of its answer
+pub returned-patch : (x : List ℤ) (n : ℕ) (p : Handed) {s : Patched} {g : PatchRead} → p .answer ≡ s → readPatch p ≡ g
+    → (numberOf (readPatched s) ≡ numberOf (g .answer)) × (besideAt x (readPatched s) (p .coordinates) ≡ besideAt x (g .answer) (g .coordinates)) × (leftAt n (readPatched s) ≡ leftAt n (g .answer))
+returned-patch x n p e q =
+    let a = ap (λ (g : PatchRead). g .answer) q in
+    let b = returned-beside readPatched x e a (ap (λ (g : PatchRead). g .coordinates) q) in
+    (b .0, b .1, returned readPatched n e a .1)
 
 -- `u` is what stands at the place that held x
 pub returned-list : (x w : List ℕ) {u : List ℕ} {a : Answer (List ℕ)} → length x ≡ wordCount → length w ≡ wordCount → u ≡ setRow x 0 w → gives w ≡ a → (0 ≡ numberOf a) × (u ≡ leftAt x a)

@@ -8,6 +8,7 @@
 //   patch_cocircuit        its sign, for a pair with every shot              1-4, 7
 //   patch_border           the number of sides                               1-4
 //   patch_chains           the corners, as a south and a north chain         1-4, 11
+//   patch_take_runs        the shots of a controller, as coordinates         1, each shot's 16 or 2, 3 4
 //   patch_circuits         C, the number of circuits                         1-4
 //   patch_circuit          the two sides of circuit z                        1-4, 12
 //   patch_test             is the list a triangulation?                      1-4, 7 10 8 9
@@ -24,6 +25,7 @@
 ghost use mathlib.Core.Path.{_≡_};
 ghost use Rattle.shots.specs.Calls.{acceptOf, orientationOf, doubleAreaOf, cocircuitOf, borderCallOf};
 ghost use Rattle.outline.specs.Calls.{chainsOf};
+ghost use Rattle.intake.specs.Calls.{takeRunsOf};
 ghost use Rattle.circuits.specs.Calls.{countCallOf, circuitCallOf};
 ghost use Rattle.lists.specs.Calls.{testOf};
 ghost use Rattle.surfaces.specs.Calls.{placingOf, flipOf};
@@ -33,12 +35,12 @@ ghost use Rattle.patch.specs.Returns.{numberOf, leftAt, besideAt, southA
 use circuits::Split;
 use lists::Tested;
 use outline::Outlined;
-use records::COORDINATES_MOST;
-use records::Patched;
 use records::Written;
 use shots::Accepted;
+use shots::COORDINATES_MOST;
 use shots::Measured;
 use shots::Oriented;
+use shots::Patched;
 use shots::SHOTS_MOST;
 use surfaces::Surface;
 use triples::WORDS;
@@ -148,6 +150,30 @@ pub extern "C" fn patch_chains(
         Outlined::Chains(lengths) => {
             *south_length = lengths.south;
             *north_length = lengths.north;
+            0
+        }
+    }
+}
+
+// ---- intake
+
+#[no_mangle]
+pub extern "C" fn patch_take_runs(
+    units: &[u8],
+    values: &[f64],
+    shots: &mut [i32; COORDINATES_MOST],
+    count: &mut usize,
+) -> u8
+    ensures { λ r. ⌜ (r ≡ numberOf (takeRunsOf (now (units .entry)) (now (values .entry)) .answer)) × (now (shots .exit) ≡ besideAt (now (shots .entry)) (takeRunsOf (now (units .entry)) (now (values .entry)) .answer) (takeRunsOf (now (units .entry)) (now (values .entry)) .coordinates)) × (now (count .exit) ≡ leftAt (now (count .entry)) (takeRunsOf (now (units .entry)) (now (values .entry)) .answer)) ⌝ }
+{
+    let taken = intake::take_runs(units, values);
+    let answer = taken.answer;
+    let coordinates = taken.coordinates;
+    match answer {
+        Patched::Refused(number) => number,
+        Patched::Shots(n) => {
+            *shots = coordinates;
+            *count = n;
             0
         }
     }

@@ -17,18 +17,18 @@ use lib.IntN.{ℤ, pos}
 use Rattle.algebra.specs.Answer.{Answer, gives, refuses, Rule, chain, refusal}
 use Rattle.algebra.specs.Writing.{wrote, bufferWith}
 use Rattle.algebra.proofs.AnswerLaws.{chain-broken, chain-kept, chain-stop, chain-after, chain-stops, chain-goes}
-use Rattle.algebra.proofs.AnswerLaws.{Unbroken, unbroken-gives, gives-unbroken, refusal-unbroken, append-unbroken}
+use Rattle.algebra.proofs.AnswerLaws.{Unbroken, unbroken-gives, unbroken-append, gives-unbroken, refusal-unbroken, append-unbroken}
 use Rattle.algebra.proofs.WritingLaws.{wrote-front, wrote-taken}
-use Rattle.shots.specs.Sizes.{shotsMost}
+use Rattle.shots.specs.Sizes.{shotsMost, coordinatesMost}
 use Rattle.shots.specs.Patch.{countOf}
 use Rattle.shots.specs.Tests.{placeRules, refusalOf}
 use Rattle.shots.proofs.Chains.{shots-numbered, shots-passed}
+use Rattle.shots.proofs.HandedLaws.{handed, handed-stops, handed-done, count-test}
 use Rattle.lists.specs.Tests.{listRules}
 use Rattle.lists.specs.Calls.{testOf}
-use Rattle.records.specs.Sizes.{coordinatesMost}
 use Rattle.records.specs.Reading.{patchFrame, coordinatesOf, patchRules, surfaceFrame, tripleRule, listedOf}
-use Rattle.records.specs.Calls.{coordinatesWith, readPatchOf, framedOf, readSurfaceOf, roomRule, writeOf}
-use Rattle.records.proofs.FormatLaws.{patch-numbered, surface-numbered, coordinates-length, count-test}
+use Rattle.records.specs.Calls.{readPatchOf, framedOf, readSurfaceOf, roomRule, writeOf}
+use Rattle.records.proofs.FormatLaws.{patch-numbered, surface-numbered, coordinates-length}
 
 -- ---- the frame of a surface record
 
@@ -44,13 +44,9 @@ module _ (n : ℕ) (b : List ℕ) {r : ℕ} (e : r ≡ refusal (surfaceFrame n b
 -- ---- a patch record
 
 module _ (b : List ℕ) where
-  -- an answer, and the array that goes with it
-  answered : {a : Answer ℕ} → a ≡ chain (patchRules b) (getD b 3 0) → record { answer = a; coordinates = coordinatesWith a (coordinatesOf b) } ≡ readPatchOf b
-  unfolding readPatchOf
-  answered p = λ k. record { answer = p k; coordinates = coordinatesWith (p k) (coordinatesOf b) }
-
   pub patch-stops : {r : ℕ} → r ≡ refusal (patchFrame b) → (r ≡ 0 → ⊥) → record { answer = refuses r; coordinates = replicate coordinatesMost (pos 0) } ≡ readPatchOf b
-  patch-stops e h = answered (ap refuses e ∙ chain-stop (patchFrame b) (placeRules (coordinatesOf b)) (getD b 3 0) (λ z. h (e ∙ z)))
+  unfolding readPatchOf
+  patch-stops e h = handed-stops (patchFrame b) (placeRules (coordinatesOf b)) (getD b 3 0) (coordinatesOf b) e h
 
   pub coordinates-taken : getD b 3 0 ≤ shotsMost → take (2 * getD b 3 0) (wrote (replicate coordinatesMost (pos 0)) 0 (coordinatesOf b)) ≡ coordinatesOf b
   coordinates-taken h =
@@ -68,13 +64,17 @@ module _ (b : List ℕ) where
 
     module _ {q : ℕ} (p : q ≡ refusalOf (coordinatesOf b)) where
       pub patch-unplaced : (q ≡ 0 → ⊥) → record { answer = refuses q; coordinates = replicate coordinatesMost (pos 0) } ≡ readPatchOf b
-      patch-unplaced z = answered (ap refuses (p ∙ placed) ∙ chain-stop (placeRules (coordinatesOf b)) [] (getD b 3 0) (λ y. z (p ∙ placed ∙ y)) ∙ behind)
+      unfolding readPatchOf
+      patch-unplaced z =
+          handed (patchRules b) (getD b 3 0) (coordinatesOf b)
+          (ap refuses (p ∙ placed) ∙ chain-stop (placeRules (coordinatesOf b)) [] (getD b 3 0) (λ y. z (p ∙ placed ∙ y)) ∙ behind)
 
       pub patch-read : q ≡ 0 → {t : List ℤ} → t ≡ wrote (replicate coordinatesMost (pos 0)) 0 (coordinatesOf b) → record { answer = gives (getD b 3 0); coordinates = t } ≡ readPatchOf b
-      unfolding chain
+      unfolding readPatchOf
       patch-read z y =
-          (λ k. record { answer = gives (getD b 3 0); coordinates = y k })
-          ∙ answered (chain-after (placeRules (coordinatesOf b)) [] (getD b 3 0) (shots-numbered (coordinatesOf b) .1) (sym (p ∙ placed) ∙ z) ∙ behind)
+          handed-done (patchRules b) (getD b 3 0) (coordinatesOf b)
+          (unbroken-append (patchFrame b) (placeRules (coordinatesOf b)) (refusal-unbroken (patchFrame b) (patch-numbered b) (sym e ∙ h))
+          (refusal-unbroken (placeRules (coordinatesOf b)) (shots-numbered (coordinatesOf b) .1) (sym (p ∙ placed) ∙ z))) y
 
 -- ---- a surface record, of an accepted run
 

@@ -17,16 +17,15 @@
 --   patch-numbered, surface-numbered        no rule of a frame has the number 0
 --   patch-framed, surface-framed            what the frames say where they are not refused
 --   coordinates-length   how many coordinates a patch record has
---   count-test           the test of the number of shots, where there are 2 coordinates to each
 --   coordinates-kept     they are a patch where no rule of the record is broken
 --   in-form, within-decided, bad-decided    the tests of a triple
 use mathlib.Core.Path.{_≡_, refl, sym, _∙_, ap}
 use mathlib.Core.Logic.{_⊎_, _↔_}
-use mathlib.Core.Bool.{Bool, true, false, cond, not, _||_}
+use mathlib.Core.Bool.{Bool, true, false, cond, not}
 use mathlib.Core.List.{List, [], _∷_, _++_}
-use Prim.Native.Nat.{ℕ, zero, suc, _+_, _*_, _/_, _%_, _^_, _≤_, _<_}
+use Prim.Native.Nat.{ℕ, zero, suc, _+_, _*_, _^_, _≤_, _<_}
 use native.Mathlib.Omega.{arith}
-use borrow.Author.Tests.{le-ltb, ltb-false, eqb-true, eq-eqb, ne-eqb, not-false}
+use borrow.Author.Tests.{le-ltb, ltb-false, eqb-true, eq-eqb, not-false}
 use lib.Dec.{ltb, eqb}
 use lib.ListN.{getD, length, drop, set, length-append, length-set}
 use lib.Seq.{getD-drop}
@@ -42,7 +41,8 @@ use Rattle.algebra.proofs.OverLaws.{over-sized}
 use Rattle.algebra.proofs.WritingLaws.{wrote-append}
 use Rattle.shots.specs.Sizes.{shotsLeast, shotsMost}
 use Rattle.shots.specs.Patch.{countOf}
-use Rattle.shots.specs.Tests.{badCount, shotRules}
+use Rattle.shots.specs.Tests.{shotRules}
+use Rattle.shots.proofs.HandedLaws.{count-test}
 use Rattle.triples.specs.Sizes.{triplesMost}
 use Rattle.triples.specs.Ranks.{tripleCount, tripleAt, rankOf}
 use Rattle.triples.specs.Sets.{sizeOf}
@@ -192,13 +192,6 @@ surface-framed n b (p, (_, (_, (r, _)))) = omega (arith, framed 5 b .0 p .1, tes
 pub coordinates-length : (b : List ℕ) → length (coordinatesOf b) ≡ 2 * getD b 3 0
 unfolding coordinatesOf
 coordinates-length b = length-tabulate (coordinateAt b) (2 * getD b 3 0)
-
-pub count-test : (l : List ℤ) (n : ℕ) → length l ≡ 2 * n → badCount l ≡ (ltb n shotsLeast || ltb shotsMost n)
-unfolding badCount
-count-test l n e = rw (ne-eqb (length l % 2) 1 (λ z. omega arith), half) refl
-  where
-    half : length l / 2 ≡ n
-    half = omega arith
 
 pub coordinates-kept : (b : List ℕ) → Unbroken (patchRules b) → Unbroken (shotRules (coordinatesOf b))
 coordinates-kept b (_, (_, (q, (_, u)))) = (count-test (coordinatesOf b) (getD b 3 0) (coordinates-length b) ∙ q, u)

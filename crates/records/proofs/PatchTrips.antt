@@ -21,6 +21,7 @@ use Rattle.shots.specs.Sizes.{shotsLeast, shotsMost, farthest}
 use Rattle.shots.specs.Patch.{countOf}
 use Rattle.shots.specs.Tests.{placeRules, shotRules, refusalOf, Near}
 use Rattle.shots.proofs.Patch.{patch-near, patch-few, patch-even}
+use Rattle.shots.proofs.HandedLaws.{count-test}
 use Rattle.shots.proofs.Chains.{shots-numbered}
 use Rattle.records.specs.Sizes.{version}
 use Rattle.records.specs.Fields.{Bytes, bytesOf, fieldOf, codeOf, signedOf}
@@ -28,7 +29,7 @@ use Rattle.records.specs.Formats.{coordinateBytes, patchBytes}
 use Rattle.records.specs.Reading.{patchFrame, coordinateAt, coordinatesOf, patchRules}
 use Rattle.records.proofs.FieldLaws.{field-bytes, bytes-field, field-low, signed-code, code-signed, code-low}
 use Rattle.records.proofs.FormatLaws.{coordinates-sized, patch-length, Head, headed, head-written, head-again, field-behind}
-use Rattle.records.proofs.FormatLaws.{same-test, test-same, framed, patch-framed, coordinates-length, count-test}
+use Rattle.records.proofs.FormatLaws.{same-test, test-same, framed, patch-framed, coordinates-length}
 
 -- ---- a record that is read
 

@@ -22,12 +22,16 @@ use lib.ListN.{getD, length, replicate, take, drop}
 use lib.IntN.{ℤ, pos}
 use Rattle.algebra.specs.Answer.{Answer, gives, refuses, Rule, Line, First, Clear, Decides}
 use Rattle.algebra.specs.Writing.{wrote, bufferWith, NoRoom}
-use Rattle.algebra.proofs.AnswerLaws.{chain-refuses, chain-gives, chain-refuses-upon, chain-gives-upon, one-answer, decides-append, clear-append, reflects-ltb}
-use Rattle.algebra.proofs.AnswerLaws.{Unbroken, gives-unbroken, unbroken-refusal, append-unbroken}
+use Rattle.algebra.proofs.AnswerLaws.{chain-refuses-upon, chain-gives-upon, one-answer, decides-append, clear-append, reflects-ltb}
+use Rattle.algebra.proofs.AnswerLaws.{Unbroken, unbroken-refusal, append-unbroken}
+use Rattle.shots.specs.Sizes.{coordinatesMost}
 use Rattle.shots.specs.Patch.{countOf}
 use Rattle.shots.specs.Tests.{shotRules, placeRules, refusalOf}
 use Rattle.shots.specs.Lines.{shotLines}
+use Rattle.shots.specs.Calls.{readPatch}
+use Rattle.shots.specs.declared.Handed.{Handed}
 use Rattle.shots.proofs.Promises.{shots-decided, shots-kept}
+use Rattle.shots.proofs.HandedLaws.{handed-refuses, handed-gives, handed-coordinates, handed-refused, handed-kept, handed-front, patch-one}
 use Rattle.lists.specs.Tests.{listRules}
 use Rattle.lists.specs.Lines.{listLines}
 use Rattle.lists.specs.Calls.{testOf}
@@ -36,21 +40,17 @@ use Rattle.lists.proofs.Promises.{test-accepts}
 use Rattle.surfaces.specs.Calls.{readSurface}
 use Rattle.surfaces.specs.declared.Surface.{Surface}
 use Rattle.surfaces.proofs.Promises.{surface-one}
-use Rattle.records.specs.Sizes.{coordinatesMost}
 use Rattle.records.specs.Fields.{Bytes, fieldOf}
 use Rattle.records.specs.Formats.{patchBytes, surfaceBytes}
 use Rattle.records.specs.Reading.{coordinatesOf, patchFrame, patchRules, surfaceFrame, tripleRule, listedOf}
 use Rattle.records.specs.Lines.{readPatchLines, surfaceFrameLines, OutOfForm, readSurfaceLines, writePatchLines, writeSurfaceLines}
-use Rattle.records.specs.Calls.{readPatched, readWritten, PatchRead, readPatch, coordinatesWith, readPatchOf, readSurfaceOf}
+use Rattle.records.specs.Calls.{readWritten, readPatchOf, readSurfaceOf}
 use Rattle.records.specs.Calls.{Writing, leftIn, roomRule, writeOf, writePatchOf, writeSurfaceOf}
-use Rattle.records.specs.declared.Patched.{Patched}
-use Rattle.records.specs.declared.Patched.the-variants as P
-use Rattle.records.specs.declared.Patch.{Patch}
 use Rattle.records.specs.declared.Written.{Written}
 use Rattle.records.specs.declared.Written.the-variants as W
 use Rattle.records.proofs.FieldLaws.{field-low}
 use Rattle.records.proofs.FormatLaws.{patch-framed, coordinates-length, coordinates-kept}
-use Rattle.records.proofs.CallChains.{coordinates-taken, written}
+use Rattle.records.proofs.CallChains.{written}
 use Rattle.records.proofs.Agreement.{patch-decided, surface-decided}
 
 -- ---- read_patch
@@ -58,32 +58,32 @@ use Rattle.records.proofs.Agreement.{patch-decided, surface-decided}
 module _ (b : List ℕ) where
   pub read-patch-refuses : (n : ℕ) → (readPatchOf b .answer ≡ refuses n) ↔ First n (readPatchLines b)
   unfolding readPatchOf
-  read-patch-refuses n = chain-refuses (patchRules b) (readPatchLines b) (getD b 3 0) n (patch-decided b)
+  read-patch-refuses = handed-refuses (patchRules b) (getD b 3 0) (coordinatesOf b) (readPatchLines b) (patch-decided b)
 
   pub read-patch-gives : (v : ℕ) → (readPatchOf b .answer ≡ gives v) ↔ (Clear (readPatchLines b) × (getD b 3 0 ≡ v))
   unfolding readPatchOf
-  read-patch-gives v = chain-gives (patchRules b) (readPatchLines b) (getD b 3 0) v (patch-decided b)
+  read-patch-gives = handed-gives (patchRules b) (getD b 3 0) (coordinatesOf b) (readPatchLines b) (patch-decided b)
 
   pub read-patch-coordinates : Clear (readPatchLines b) → readPatchOf b .coordinates ≡ wrote (replicate coordinatesMost (pos 0)) 0 (coordinatesOf b)
   unfolding readPatchOf
-  read-patch-coordinates h = ap (λ (x : Answer ℕ). coordinatesWith x (coordinatesOf b)) (read-patch-gives (getD b 3 0) .1 (h, refl))
+  read-patch-coordinates = handed-coordinates (patchRules b) (getD b 3 0) (coordinatesOf b) (readPatchLines b) (patch-decided b)
 
   pub read-patch-refused : (n : ℕ) → First n (readPatchLines b) → readPatchOf b .coordinates ≡ replicate coordinatesMost (pos 0)
   unfolding readPatchOf
-  read-patch-refused n h = ap (λ (x : Answer ℕ). coordinatesWith x (coordinatesOf b)) (read-patch-refuses n .1 h)
+  read-patch-refused = handed-refused (patchRules b) (getD b 3 0) (coordinatesOf b) (readPatchLines b) (patch-decided b)
 
   module _ (n : ℕ) (e : readPatchOf b .answer ≡ gives n) where
     unbroken : Unbroken (patchRules b)
     unfolding readPatchOf
-    unbroken = gives-unbroken (patchRules b) (getD b 3 0) n e .0
+    unbroken = handed-kept (patchRules b) (getD b 3 0) (coordinatesOf b) n e .0
 
     same : getD b 3 0 ≡ n
     same = read-patch-gives n .0 e .1
 
     pub read-patch-front : take (2 * n) (readPatchOf b .coordinates) ≡ coordinatesOf b
+    unfolding readPatchOf
     read-patch-front =
-        (λ i. take (2 * sym same i) (read-patch-coordinates (read-patch-gives n .0 e .0) i))
-        ∙ coordinates-taken b (patch-framed b (append-unbroken (patchFrame b) (placeRules (coordinatesOf b)) unbroken .0) .1)
+        handed-front (patchRules b) (getD b 3 0) (coordinatesOf b) (coordinates-length b) (patch-framed b (append-unbroken (patchFrame b) (placeRules (coordinatesOf b)) unbroken .0) .1) n e
 
     pub read-patch-count : countOf (coordinatesOf b) ≡ n
     read-patch-count = omega (arith, coordinates-length b, same)
@@ -187,20 +187,6 @@ module _ (l : List ℤ) (b : List ℕ) where
 
 -- ---- one answer: each reading can be undone
 
-abbrev patchedAs : Answer ℕ → Patched
-patchedAs (gives n) = P.Shots n
-patchedAs (refuses n) = P.Refused n
-
-patched-back : (r : Patched) → patchedAs (readPatched r) ≡ r
-patched-back (P.Shots n) = refl
-patched-back (P.Refused n) = refl
-
-abbrev patchAs : PatchRead → Patch
-patchAs p = record { answer = patchedAs (p .answer); coordinates = p .coordinates }
-
-patch-back : (r : Patch) → patchAs (readPatch r) ≡ r
-patch-back r = λ t. record { answer = patched-back (r .answer) t; coordinates = r .coordinates }
-
 abbrev writtenAs : Answer ℕ → Written
 writtenAs (gives k) = W.Bytes k
 writtenAs (refuses n) = W.Refused n
@@ -215,8 +201,8 @@ left-one {x} u u′ r r′ p q = (
   one-answer readWritten writtenAs written-back (ap (λ (y : Writing). y .answer) p) (ap (λ (y : Writing). y .answer) q),
 )
 
-pub read-patch-one : (b : List ℕ) (r r′ : Patch) → readPatch r ≡ readPatchOf b → readPatch r′ ≡ readPatchOf b → r ≡ r′
-read-patch-one b r r′ = one-answer readPatch patchAs patch-back
+pub read-patch-one : (b : List ℕ) (r r′ : Handed) → readPatch r ≡ readPatchOf b → readPatch r′ ≡ readPatchOf b → r ≡ r′
+read-patch-one b r r′ = patch-one
 
 pub write-patch-one : (l : List ℤ) (t u u′ : List ℕ) (r r′ : Written) → leftIn u r ≡ writePatchOf l t → leftIn u′ r′ ≡ writePatchOf l t → (u ≡ u′) × (r ≡ r′)
 write-patch-one l t = left-one

@@ -1,7 +1,6 @@
 -- What each public call of this room answers, and all that it leaves, for every input.
 --
---   readPatched, readWritten    the refusal number or the value of each case of an answer; surfaces has that of a list
---   PatchRead            a patch reader's answer, the number of shots, and the array beside it; `readPatch`: of what the code gives; `coordinatesWith`: the array that goes with an answer
+--   readWritten          the refusal number or the value of each case of an answer; shots has that of a patch, surfaces that of a list
 --   readPatchOf b        the shots of a patch record, 0 in the places past them; or 5 6 1 5 2 3 4, and 0 everywhere
 --   framedOf n b         what the frame and the triples of a surface record say by themselves, for n shots: its list, or 5 6 7 5 7
 --   readSurfaceOf l b    the words of a surface record's list; or 1-4, 5 6 7 5 7 10 8 9
@@ -15,27 +14,20 @@
 use mathlib.Core.List.{List, [], _∷_, _++_}
 use Prim.Native.Nat.{ℕ}
 use lib.Dec.{ltb}
-use lib.ListN.{getD, length, replicate}
-use lib.IntN.{ℤ, pos}
+use lib.ListN.{getD, length}
+use lib.IntN.{ℤ}
 use Rattle.algebra.specs.Answer.{Answer, gives, refuses, Rule, chain}
-use Rattle.algebra.specs.Writing.{wrote, bufferWith}
+use Rattle.algebra.specs.Writing.{bufferWith}
 use Rattle.shots.specs.Patch.{countOf}
 use Rattle.shots.specs.Tests.{shotRules}
+use Rattle.shots.specs.Calls.{PatchRead, patchGiven}
 use Rattle.lists.specs.Tests.{listRules}
-use Rattle.records.specs.Sizes.{coordinatesMost}
 use Rattle.records.specs.Formats.{patchBytes, surfaceBytes}
 use Rattle.records.specs.Reading.{coordinatesOf, patchRules, surfaceFrame, tripleRule, listedOf, surfaceRules}
-use Rattle.records.specs.declared.Patched.{Patched}
-use Rattle.records.specs.declared.Patched.the-variants as P
-use Rattle.records.specs.declared.Patch.{Patch}
 use Rattle.records.specs.declared.Written.{Written}
 use Rattle.records.specs.declared.Written.the-variants as W
 
 -- ---- the paper's number and value of each case
-
-abbrev pub readPatched : Patched → Answer ℕ
-readPatched (P.Shots n) = gives n
-readPatched (P.Refused n) = refuses n
 
 abbrev pub readWritten : Written → Answer ℕ
 readWritten (W.Bytes k) = gives k
@@ -43,24 +35,8 @@ readWritten (W.Refused n) = refuses n
 
 -- ---- readers
 
-pub record PatchRead : Type 0 where
-  pub answer : Answer ℕ
-  pub coordinates : List ℤ
-
-abbrev pub readPatch : Patch → PatchRead
-readPatch p = record { answer = readPatched (p .answer); coordinates = p .coordinates }
-
--- the array that goes with an answer: the coordinates in front where nothing refuses
-abbrev pub coordinatesWith : Answer ℕ → List ℤ → List ℤ
-coordinatesWith (gives n) l = wrote (replicate coordinatesMost (pos 0)) 0 l
-coordinatesWith (refuses n) l = replicate coordinatesMost (pos 0)
-
 unfoldable pub readPatchOf : List ℕ → PatchRead
-readPatchOf b =
-    record {
-      answer = chain (patchRules b) (getD b 3 0);
-      coordinates = coordinatesWith (chain (patchRules b) (getD b 3 0)) (coordinatesOf b);
-    }
+readPatchOf b = patchGiven (patchRules b) (getD b 3 0) (coordinatesOf b)
 
 unfoldable pub framedOf : ℕ → List ℕ → Answer (List ℕ)
 framedOf n b = chain (surfaceFrame n b ++ tripleRule n b ∷ []) (listedOf n b)

@@ -10,9 +10,12 @@
 ghost use mathlib.Core.Path.{_≡_};
 ghost use Rattle.triples.specs.Sets.{wordsOf};
 ghost use Rattle.surfaces.specs.Calls.{readSurface};
-ghost use Rattle.records.specs.Calls.{readPatch, leftIn, readPatchOf, readSurfaceOf, writePatchOf, writeSurfaceOf};
+ghost use Rattle.shots.specs.Calls.{readPatch};
+ghost use Rattle.records.specs.Calls.{leftIn, readPatchOf, readSurfaceOf, writePatchOf, writeSurfaceOf};
 use lists::Tested;
-use shots::SHOTS_MOST;
+use shots::COORDINATES_MOST;
+use shots::Handed;
+use shots::Patched;
 use surfaces::Surface;
 use triples::Triples;
 
@@ -22,31 +25,17 @@ mod patches;
 
 pub const VERSION: u8 = 1;
 
-// The coordinates of the largest patch.
-pub const COORDINATES_MOST: usize = 2 * SHOTS_MOST;
-
-pub enum Patched {
-    Shots(usize),
-    Refused(u8),
-}
-
-// The coordinates stand beside the answer: 0 past the shots, and 0 everywhere where the record is refused.
-pub struct Patch {
-    pub answer: Patched,
-    pub coordinates: [i32; COORDINATES_MOST],
-}
-
 pub enum Written {
     Bytes(usize),
     Refused(u8),
 }
 
-pub fn read_patch(bytes: &[u8]) -> Patch
+pub fn read_patch(bytes: &[u8]) -> Handed
     ensures { λ r. ⌜ readPatch r ≡ readPatchOf (now (bytes .entry)) ⌝ }
 {
     let number = patches::frame(bytes);
     if number != 0 {
-        return Patch {
+        return Handed {
             answer: Patched::Refused(number),
             coordinates: [0; COORDINATES_MOST],
         };
@@ -55,12 +44,12 @@ pub fn read_patch(bytes: &[u8]) -> Patch
     let coordinates = patches::coordinates(bytes, n);
     let refusal = shots::tests::refusal(&coordinates[..2 * n]);
     if refusal != 0 {
-        return Patch {
+        return Handed {
             answer: Patched::Refused(refusal),
             coordinates: [0; COORDINATES_MOST],
         };
     }
-    Patch {
+    Handed {
         answer: Patched::Shots(n),
         coordinates,
     }

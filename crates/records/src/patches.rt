@@ -8,13 +8,12 @@ ghost use Rattle.algebra.specs.Loops.{over};
 ghost use Rattle.algebra.specs.Writing.{wrote};
 ghost use Rattle.shots.specs.Patch.{countOf};
 ghost use Rattle.shots.specs.Tests.{refusalOf};
-ghost use Rattle.shots.specs.Sizes.{shotsMost};
-ghost use Rattle.records.specs.Sizes.{coordinatesMost};
+ghost use Rattle.shots.specs.Sizes.{shotsMost, coordinatesMost};
 ghost use Rattle.records.specs.Formats.{patchBytes, coordinateBytes};
 ghost use Rattle.records.specs.Reading.{patchFrame, coordinatesOf};
-use super::COORDINATES_MOST;
 use super::VERSION;
 use super::fields;
+use shots::COORDINATES_MOST;
 use shots::SHOTS_LEAST;
 use shots::SHOTS_MOST;
 

@@ -13,13 +13,13 @@ use lib.ListN.{length, getD, take, replicate, List·getD-eq-default}
 use lib.IntN.{pos}
 use Rattle.algebra.specs.Answer.{gives}
 use Rattle.algebra.proofs.WritingLaws.{wrote-length}
-use Rattle.shots.specs.Sizes.{shotsLeast, shotsMost}
+use Rattle.shots.specs.Sizes.{shotsLeast, shotsMost, coordinatesMost}
 use Rattle.shots.specs.Tests.{refusalOf}
+use Rattle.shots.specs.Calls.{PatchRead, readPatch}
+use Rattle.shots.specs.declared.Handed.{Handed}
 use Rattle.shots.proofs.Patch.{patch-few, patch-even}
-use Rattle.records.specs.Sizes.{coordinatesMost}
 use Rattle.records.specs.Reading.{coordinatesOf}
-use Rattle.records.specs.Calls.{PatchRead, readPatch, readPatchOf}
-use Rattle.records.specs.declared.Patch.{Patch}
+use Rattle.records.specs.Calls.{readPatchOf}
 use Rattle.records.proofs.Promises.{read-patch-gives, read-patch-coordinates, read-patch-front, read-patch-count, read-patch-accepted}
 
 module _ (b : List ℕ) (n : ℕ) (given : readPatchOf b .answer ≡ gives n) where
@@ -39,7 +39,7 @@ module _ (b : List ℕ) (n : ℕ) (given : readPatchOf b .answer ≡ gives n) wh
       there (yes h) = h
       there (no h) = absurd (omega (arith, List·getD-eq-default b 0 {n = 3} (omega arith), read-patch-gives b n .0 given .1, between .0))
 
-  module _ (p : Patch) (e : readPatch p ≡ readPatchOf b) where
+  module _ (p : Handed) (e : readPatch p ≡ readPatchOf b) where
     pub shots-front : take (2 * n) (p .coordinates) ≡ coordinatesOf b
     shots-front = ap (λ (y : PatchRead). take (2 * n) (y .coordinates)) e ∙ read-patch-front b n given
 

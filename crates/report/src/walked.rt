@@ -14,7 +14,7 @@ ghost use Rattle.report.specs.Report.{endedIn, readFound, refusedFind, e
 use super::Found;
 use super::STEPS_MOST;
 use super::TABLE_WORDS;
-use records::Patched;
+use shots::Patched;
 use surfaces::Surface;
 use triples::Triples;
 use walks::Stepped;

@@ -1,13 +1,16 @@
 // A case: the call that its word names, on what its line holds.
-ghost use Prim.Native.Nat.{_≤_};
+ghost use Prim.Native.Nat.{_≤_, _<_};
 ghost use lib.ListN.{length};
 use super::SHOTS_ROOM;
+use super::VALUES_ROOM;
 use super::parse;
 use super::parse::NUMBERS_MOST;
 use super::show;
+use intake::Shot;
 use outline::Facing;
 use outline::Lengths;
 use outline::Outlined;
+use shots::SHOTS_MOST;
 use surfaces::Surface;
 use triples::Triples;
 use walks::Walk;
@@ -80,11 +83,18 @@ fn stepped(answer: walks::Stepped) {
     }
 }
 
-fn patched(answer: records::Patched) {
+fn patched(answer: shots::Patched) {
     match answer {
-        records::Patched::Shots(n) => show::field(b" shots ", n as u64),
-        records::Patched::Refused(n) => show::refused(n),
+        shots::Patched::Shots(n) => show::field(b" shots ", n as u64),
+        shots::Patched::Refused(n) => show::refused(n),
     }
+}
+
+fn handed(patch: shots::Handed) {
+    let answer = patch.answer;
+    let coordinates = patch.coordinates;
+    patched(answer);
+    show::coordinates(&coordinates);
 }
 
 fn written(answer: records::Written) {
@@ -234,14 +244,6 @@ fn of_walks(line: &[u8], shots: &[i32], table: &mut [u64], numbers: &[u64; NUMBE
 
 // ---- records
 
-fn show_read_patch(bytes: &[u8]) {
-    let patch = records::read_patch(bytes);
-    let answer = patch.answer;
-    let coordinates = patch.coordinates;
-    patched(answer);
-    show::coordinates(&coordinates);
-}
-
 fn show_read_surface(shots: &[i32], bytes: &[u8]) {
     let read = records::read_surface(shots, bytes);
     let Surface::List(list) = read else {
@@ -252,7 +254,7 @@ fn show_read_surface(shots: &[i32], bytes: &[u8]) {
 
 fn of_records(line: &[u8], shots: &[i32], bytes: &mut [u8], list: Triples) -> bool {
     if parse::is(line, b"read_patch") {
-        show_read_patch(bytes);
+        handed(records::read_patch(bytes));
         return true;
     }
     if parse::is(line, b"write_patch") {
@@ -307,6 +309,53 @@ fn of_outline(
     false
 }
 
+// ---- the intake
+
+// A shot's unit; past the run, 0.
+fn unit(units: &[u8], i: usize) -> u8 {
+    if i < units.len() {
+        return units[i];
+    }
+    0
+}
+
+fn shot(units: &[u8], values: &[f64; VALUES_ROOM], i: usize) -> Shot
+    requires { ⌜ i < 10 ⌝ }
+{
+    let east = values[2 * i];
+    let north = values[2 * i + 1];
+    if unit(units, i) == 0 {
+        return Shot::Metres(east, north);
+    }
+    Shot::Feet(east, north)
+}
+
+// The ten shots; past their run, the values are 0.
+fn ten_shots(units: &[u8], values: &[f64; VALUES_ROOM]) -> [Shot; SHOTS_MOST] {
+    let mut out = [Shot::Metres(0.0, 0.0); SHOTS_MOST];
+    let mut i = 0;
+    while i < SHOTS_MOST {
+        out[i] = shot(units, values, i);
+        i += 1;
+    }
+    out
+}
+
+// The patterns of the values stand where a table does, in the line's second run.
+fn of_intake(line: &[u8], units: &[u8], patterns: &[u64], count: usize) -> bool {
+    let mut values = [0.0; VALUES_ROOM];
+    let n = parse::doubles(patterns, &mut values);
+    if parse::is(line, b"take") {
+        handed(intake::take(ten_shots(units, &values), count));
+        return true;
+    }
+    if parse::is(line, b"take_runs") {
+        handed(intake::take_runs(units, &values[..n]));
+        return true;
+    }
+    false
+}
+
 // ---- a line
 
 // Whether the line's word is a call's; then it is made, and its answer is printed.
@@ -334,7 +383,10 @@ fn called(
     if of_records(line, shots, bytes, list) {
         return true;
     }
-    of_outline(line, shots, bytes, more, Lengths { south: a, north: b })
+    if of_outline(line, shots, bytes, more, Lengths { south: a, north: b }) {
+        return true;
+    }
+    of_intake(line, bytes, table, a)
 }
 
 // The word, the answer, and what was left; an unknown word is said to be so.
@@ -370,6 +422,9 @@ fn bytes_run(line: &[u8]) -> usize
         return 1;
     }
     if parse::is(line, b"south_part") || parse::is(line, b"north_part") {
+        return 1;
+    }
+    if parse::is(line, b"take") || parse::is(line, b"take_runs") {
         return 1;
     }
     2

@@ -6,12 +6,14 @@ mod calls;
 mod parse;
 mod show;
 
-// The longest stream, run of coordinates, run of bytes, and table. The room for the stream is one byte more, so that what is longer is seen to be.
+// The longest stream, run of coordinates, run of doubles, run of bytes, and table. The room for the stream is one byte more, so that what is longer is seen to be.
 const STREAM_MOST: usize = 524288;
 
 const STREAM_ROOM: usize = STREAM_MOST + 1;
 
 const SHOTS_ROOM: usize = 64;
+
+const VALUES_ROOM: usize = 64;
 
 const BYTES_ROOM: usize = 65600;
 

@@ -272,3 +272,26 @@ pub fn bytes(cells: &[u64], len: usize, out: &mut [u8]) -> usize
     }
     i
 }
+
+// The double of a pattern. Less its sign's bit, the pattern of a NaN is above that of an infinity; any such gives one and the same NaN.
+fn double(pattern: u64) -> f64 {
+    if pattern % 0x8000_0000_0000_0000 > 0x7ff0_0000_0000_0000 {
+        return 0.0 / 0.0;
+    }
+    f64::from_bits(pattern)
+}
+
+// The cells as doubles, as far as there is room; how many there are.
+pub fn doubles(cells: &[u64], out: &mut [f64]) -> usize
+    ensures { λ r. ⌜ r ≤ length (now (out .exit)) ⌝ }
+{
+    let mut i = 0;
+    while i < cells.len() {
+        if out.len() <= i {
+            return i;
+        }
+        out[i] = double(cells[i]);
+        i += 1;
+    }
+    i
+}

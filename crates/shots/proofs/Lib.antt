@@ -7,3 +7,4 @@ pub mod Borders
 pub mod Sides
 pub mod Promises
 pub mod Orders
+pub mod HandedLaws

@@ -1,6 +1,6 @@
 -- What each public call of this room answers, for every input: its contract is an equation with one of these.
 --
---   readAccepted, readOriented, readMeasured, readCounted, readSigns
+--   readAccepted, readOriented, readMeasured, readCounted, readSigns, readPatched
 --                        the refusal number or the value of each case of a call's answer
 --   acceptOf l           accepted, or 1 2 3 4
 --   orientationOf l a b c   the double area of three shots, with its sign; or 1-4, 7
@@ -11,6 +11,9 @@
 --   shotsRule l a b c, pairRule l i j    7: one of three numbers is not a shot; not a pair i < j of shots
 --   signAt l i j k, signsWith a s        the sign of place k in the cocircuit of i, j; the array that goes with an answer
 --   sidesOf l j          how many i < j make a side with j
+--   PatchRead            the answer of a call of a room above this one that hands out shots, how many, and the array beside it; `readPatch`: of what the code gives
+--   coordinatesWith a l  the array that goes with an answer
+--   patchGiven rs n l    what such a call answers: n shots, and their coordinates l in front of zeros; or a rule of rs, and 0 everywhere
 --
 -- Source: document 01, "Shots and orientation"; document 02, E1, E6.
 use mathlib.Core.Bool.{cond, _||_}
@@ -22,7 +25,8 @@ use lib.IntN.{ℤ, pos, natAbs}
 use Rattle.algebra.specs.Answer.{Answer, gives, refuses, onValue, Rule, chain}
 use Rattle.algebra.specs.Loops.{tabulate, tally}
 use Rattle.algebra.specs.Sign.{value}
-use Rattle.shots.specs.Sizes.{shotsMost}
+use Rattle.algebra.specs.Writing.{wrote}
+use Rattle.shots.specs.Sizes.{shotsMost, coordinatesMost}
 use Rattle.shots.specs.Coordinates.{areaOf}
 use Rattle.shots.specs.Patch.{countOf, orientOf, sidePairOf}
 use Rattle.shots.specs.Tests.{shotRules}
@@ -35,6 +39,9 @@ use Rattle.shots.specs.declared.Measured.the-variants as M
 use Rattle.shots.specs.declared.Counted.{Counted}
 use Rattle.shots.specs.declared.Counted.the-variants as C
 use Rattle.shots.specs.declared.Signs.{Signs}
+use Rattle.shots.specs.declared.Patched.{Patched}
+use Rattle.shots.specs.declared.Patched.the-variants as P
+use Rattle.shots.specs.declared.Handed.{Handed}
 
 -- ---- the paper's number and value of each case
 
@@ -61,6 +68,25 @@ pub record Cocircuit : Type 0 where
 
 abbrev pub readSigns : Signs → Cocircuit
 readSigns s = record { answer = readAccepted (s .answer); signs = s .signs }
+
+abbrev pub readPatched : Patched → Answer ℕ
+readPatched (P.Shots n) = gives n
+readPatched (P.Refused n) = refuses n
+
+pub record PatchRead : Type 0 where
+  pub answer : Answer ℕ
+  pub coordinates : List ℤ
+
+abbrev pub readPatch : Handed → PatchRead
+readPatch p = record { answer = readPatched (p .answer); coordinates = p .coordinates }
+
+-- the array that goes with an answer: the coordinates in front where nothing refuses
+abbrev pub coordinatesWith : Answer ℕ → List ℤ → List ℤ
+coordinatesWith (gives n) l = wrote (replicate coordinatesMost (pos 0)) 0 l
+coordinatesWith (refuses n) l = replicate coordinatesMost (pos 0)
+
+abbrev pub patchGiven : List Rule → ℕ → List ℤ → PatchRead
+patchGiven rs n l = record { answer = chain rs n; coordinates = coordinatesWith (chain rs n) l }
 
 -- ---- the calls
 

@@ -6,6 +6,7 @@
 --   OneLine l            4: all shots on one line
 --   NotShot l i          a number that is not a shot
 --   NotPair l i j        a pair with a number that is not a shot, or not in order
+--   shapeLines           the lines 3, 4
 --   placeLines           the lines 2, 3, 4
 --   shotLines, orientationLines, cocircuitLines    the tables of the calls
 --   SidePairs l ps       ps holds each side, a pair i < j of shots, once, and nothing else
@@ -43,12 +44,11 @@ NotShot l i = countOf l ≤ i
 abbrev pub NotPair : List ℤ → ℕ → ℕ → Type 0
 NotPair l i j = NotShot l i ⊎ (NotShot l j ⊎ (j ≤ i))
 
+abbrev pub shapeLines : List ℤ → List Line
+shapeLines l = record { number = 3; when = Repeated l } ∷ record { number = 4; when = OneLine l } ∷ []
+
 abbrev pub placeLines : List ℤ → List Line
-placeLines l =
-    record { number = 2; when = Beyond l }
-    ∷ record { number = 3; when = Repeated l }
-    ∷ record { number = 4; when = OneLine l }
-    ∷ []
+placeLines l = record { number = 2; when = Beyond l } ∷ shapeLines l
 
 abbrev pub shotLines : List ℤ → List Line
 shotLines l = record { number = 1; when = BadCount l } ∷ placeLines l

@@ -4,6 +4,7 @@
 --   someFar l      a coordinate beyond its range; `farAt l i`: at place i
 --   someSame l     two shots equal; `sameAt l j i`: shots i and j; `sameBefore l j`: shot j and one before it
 --   someBent l     three shots that are not on one line; `bentAt l c b a`: a, b, c; `bentOf l c b`: some a before b with them; `bentBefore l c`: some two before c with it
+--   shapeRules l   the rules 3, 4
 --   placeRules l   the rules 2, 3, 4
 --   shotRules l    the four rules, in order
 --   refusalOf l    the number that refuses the run, 0 where it is accepted
@@ -56,12 +57,11 @@ bentBefore l c = any c (bentOf l c)
 unfoldable pub someBent : List ℤ → Bool
 someBent l = any (countOf l) (bentBefore l)
 
+abbrev pub shapeRules : List ℤ → List Rule
+shapeRules l = record { number = 3; broken = someSame l } ∷ record { number = 4; broken = not (someBent l) } ∷ []
+
 abbrev pub placeRules : List ℤ → List Rule
-placeRules l =
-    record { number = 2; broken = someFar l }
-    ∷ record { number = 3; broken = someSame l }
-    ∷ record { number = 4; broken = not (someBent l) }
-    ∷ []
+placeRules l = record { number = 2; broken = someFar l } ∷ shapeRules l
 
 abbrev pub shotRules : List ℤ → List Rule
 shotRules l = record { number = 1; broken = badCount l } ∷ placeRules l

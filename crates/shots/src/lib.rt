@@ -19,6 +19,9 @@ pub const SHOTS_LEAST: usize = 3;
 
 pub const SHOTS_MOST: usize = 10;
 
+// The coordinates of the largest patch.
+pub const COORDINATES_MOST: usize = 2 * SHOTS_MOST;
+
 // A coordinate lies between these, both included.
 pub const LOWEST: i32 = -1000000;
 
@@ -49,6 +52,18 @@ pub enum Counted {
 pub struct Signs {
     pub answer: Accepted,
     pub signs: [i8; SHOTS_MOST],
+}
+
+// How many shots a call hands out.
+pub enum Patched {
+    Shots(usize),
+    Refused(u8),
+}
+
+// Their coordinates stand beside the answer: 0 past the shots, and 0 everywhere where the call is refused.
+pub struct Handed {
+    pub answer: Patched,
+    pub coordinates: [i32; COORDINATES_MOST],
 }
 
 pub fn accept(shots: &[i32]) -> Accepted

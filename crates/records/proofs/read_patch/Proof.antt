@@ -7,9 +7,8 @@ use lib.ListN.{length, getD, take, replicate}
 use lib.IntN.{pos}
 use Rattle.algebra.proofs.AnswerLaws.{refusal-unbroken}
 use Rattle.algebra.proofs.WritingLaws.{wrote-length}
-use Rattle.shots.specs.Sizes.{shotsLeast, shotsMost}
+use Rattle.shots.specs.Sizes.{shotsLeast, shotsMost, coordinatesMost}
 use Rattle.shots.specs.Tests.{refusalOf}
-use Rattle.records.specs.Sizes.{coordinatesMost}
 use Rattle.records.specs.Reading.{patchFrame, coordinatesOf}
 use Rattle.records.proofs.FormatLaws.{patch-numbered, patch-framed, coordinates-length}
 use Rattle.records.proofs.CallChains.{coordinates-taken, patch-stops, patch-unplaced, patch-read}

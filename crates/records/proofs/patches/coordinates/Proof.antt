@@ -12,7 +12,7 @@ use Rattle.algebra.specs.Writing.{wrote}
 use Rattle.algebra.proofs.LoopLaws.{fill-none, fill-more, length-tabulate}
 use Rattle.algebra.proofs.SizeLaws.{read-back}
 use Rattle.algebra.proofs.WritingLaws.{wrote-parts}
-use Rattle.records.specs.Sizes.{coordinatesMost}
+use Rattle.shots.specs.Sizes.{coordinatesMost}
 use Rattle.records.specs.Fields.{signedOf}
 use Rattle.records.specs.Reading.{coordinateAt, coordinatesOf}
 use Rattle.records.proofs.patches.coordinates.Statement.{statement}

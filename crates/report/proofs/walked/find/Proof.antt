@@ -8,9 +8,10 @@ use lib.IntN.{ℤ}
 use borrow.Author.Needs.{needs}
 use Rattle.algebra.specs.Answer.{gives, refuses}
 use Rattle.shots.specs.Tests.{refusalOf}
+use Rattle.shots.specs.Calls.{PatchRead, readPatched}
 use Rattle.surfaces.specs.Calls.{placingOf}
 use Rattle.records.specs.Reading.{coordinatesOf}
-use Rattle.records.specs.Calls.{PatchRead, readPatched, readPatchOf}
+use Rattle.records.specs.Calls.{readPatchOf}
 use Rattle.report.specs.Report.{readFound, placedFind}
 use Rattle.report.proofs.LineLaws.{find-refused, find-read}
 use Rattle.report.proofs.ReadLaws.{shots-few, shots-front, shots-wide, shots-taken, shots-accepted}

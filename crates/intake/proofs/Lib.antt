@@ -1,0 +1,6 @@
+pub mod Nearness
+pub mod Sums
+pub mod Finiteness
+pub mod TurnLaws
+pub mod CallChains
+pub mod Promises

@@ -1,0 +1,6 @@
+pub mod Nearest
+pub mod Scaling
+pub mod Tests
+pub mod Runs
+pub mod Lines
+pub mod Calls
