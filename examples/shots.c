@@ -58,7 +58,28 @@ static const struct {
     {"e", EAST}, {"east", EAST}, {"easting", EAST}, {"x", EAST},
 };
 
-/* all that the words of a text mean; only whole words count, so there are no feet in a shift */
+/* what a word means, by itself; only a whole word counts, so there are no feet in a shift */
+static int word_meaning(const char *word, size_t length)
+{
+    for (size_t at = 0; at < sizeof meanings / sizeof meanings[0]; at++)
+        if (strncasecmp(word, meanings[at].word, length) == 0 && meanings[at].word[length] == '\0')
+            return meanings[at].meaning;
+    return 0;
+}
+
+/* The same of a word that may be two, written as one: NorthingFt is the northing, in feet. */
+static int joined_meaning(const char *word, size_t length)
+{
+    static const char *const columns[] = {"northing", "easting"};
+    for (size_t at = 0; at < sizeof columns / sizeof columns[0]; at++) {
+        size_t front = strlen(columns[at]);
+        if (length > front && strncasecmp(word, columns[at], front) == 0)
+            return word_meaning(word, front) | word_meaning(word + front, length - front);
+    }
+    return word_meaning(word, length);
+}
+
+/* all that the words of a text mean */
 static int meaning(const char *text)
 {
     int all = 0;
@@ -66,9 +87,7 @@ static int meaning(const char *text)
         size_t length = 0;
         while (isalpha((unsigned char)text[length]) || (unsigned char)text[length] >= 0x80)
             length++;
-        for (size_t at = 0; at < sizeof meanings / sizeof meanings[0]; at++)
-            if (strncasecmp(text, meanings[at].word, length) == 0 && meanings[at].word[length] == '\0')
-                all |= meanings[at].meaning;
+        all |= joined_meaning(text, length);
         text += length > 0 ? length : 1;
     }
     return all;

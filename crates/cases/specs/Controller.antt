@@ -5,7 +5,7 @@
 --
 -- Theorem: proofs/Cases (`controller-right`).
 use mathlib.Core.Bool.{true, false}
-use mathlib.Core.List.{List, [], _∷_, _++_}
+use mathlib.Core.List.{List, [], _∷_}
 use Prim.Native.Nat.{ℕ}
 use lib.ListN.{replicate}
 use lib.IntN.{ℤ, pos, negsuc}

@@ -29,7 +29,7 @@ use Rattle.shots.proofs.Decided.{far-decided}
 use Rattle.shots.proofs.Chains.{shots-numbered}
 use Rattle.shots.proofs.HandedLaws.{handed, handed-done, count-test}
 use Rattle.intake.specs.Scaling.{surveyFoot, millimetresOf, atOrigin}
-use Rattle.intake.specs.Tests.{turnRules, countRule, takeRules}
+use Rattle.intake.specs.Tests.{turnRules, countRule, intakeRules}
 use Rattle.intake.specs.Runs.{shotIn, shotsIn, runsRule}
 use Rattle.intake.specs.Calls.{takeOf, takeRunsOf}
 use Rattle.intake.specs.declared.Shot.{Shot}
@@ -46,8 +46,8 @@ module _ (foot : Foot) (l : List Shot) (n : ℕ) where
   abbrev Refused : ℕ → PatchRead
   Refused k = record { answer = refuses k; coordinates = replicate coordinatesMost (pos 0) }
 
-  pub take-miscounted : (r : Rule) → r .broken ≡ true → Refused (r .number) ≡ patchGiven (takeRules foot r l) n places
-  take-miscounted r h = handed (takeRules foot r l) n places (chain-broken r (turnRules foot l ++ shapeRules places) n h)
+  pub take-miscounted : (r : Rule) → r .broken ≡ true → Refused (r .number) ≡ patchGiven (intakeRules foot r l) n places
+  take-miscounted r h = handed (intakeRules foot r l) n places (chain-broken r (turnRules foot l ++ shapeRules places) n h)
 
   pub shots-placed : countRule n .broken ≡ false → Unbroken (turnRules foot l) → length l ≡ n → refusalOf places ≡ refusal (shapeRules places)
   unfolding refusalOf refusal
@@ -58,12 +58,12 @@ module _ (foot : Foot) (l : List Shot) (n : ℕ) where
       ) refl
 
   module _ (h : countRule n .broken ≡ false) where
-    behind : chain (turnRules foot l ++ shapeRules places) n ≡ chain (takeRules foot (countRule n) l) n
+    behind : chain (turnRules foot l ++ shapeRules places) n ≡ chain (intakeRules foot (countRule n) l) n
     behind = chain-kept (countRule n) (turnRules foot l ++ shapeRules places) n h
 
     module _ {k : ℕ} (e : k ≡ refusal (turnRules foot l)) where
-      pub take-turned : (k ≡ 0 → ⊥) → Refused k ≡ patchGiven (takeRules foot (countRule n) l) n places
-      take-turned z = handed (takeRules foot (countRule n) l) n places (ap refuses e ∙ chain-stop (turnRules foot l) (shapeRules places) n (λ y. z (e ∙ y)) ∙ behind)
+      pub take-turned : (k ≡ 0 → ⊥) → Refused k ≡ patchGiven (intakeRules foot (countRule n) l) n places
+      take-turned z = handed (intakeRules foot (countRule n) l) n places (ap refuses e ∙ chain-stop (turnRules foot l) (shapeRules places) n (λ y. z (e ∙ y)) ∙ behind)
 
       module _ (z : k ≡ 0) (m : length l ≡ n) where
         turned : Unbroken (turnRules foot l)
@@ -73,14 +73,14 @@ module _ (foot : Foot) (l : List Shot) (n : ℕ) where
         placed = shots-placed h turned m
 
         module _ {q : ℕ} (p : q ≡ refusalOf places) where
-          pub take-unplaced : (q ≡ 0 → ⊥) → Refused q ≡ patchGiven (takeRules foot (countRule n) l) n places
+          pub take-unplaced : (q ≡ 0 → ⊥) → Refused q ≡ patchGiven (intakeRules foot (countRule n) l) n places
           take-unplaced y =
-              handed (takeRules foot (countRule n) l) n places
+              handed (intakeRules foot (countRule n) l) n places
               (ap refuses (p ∙ placed) ∙ chain-stop (shapeRules places) [] n (λ x. y (p ∙ placed ∙ x)) ∙ unbroken-after (turnRules foot l) (shapeRules places) n turned ∙ behind)
 
-          pub take-taken : q ≡ 0 → {t : List ℤ} → t ≡ wrote (replicate coordinatesMost (pos 0)) 0 places → record { answer = gives n; coordinates = t } ≡ patchGiven (takeRules foot (countRule n) l) n places
+          pub take-taken : q ≡ 0 → {t : List ℤ} → t ≡ wrote (replicate coordinatesMost (pos 0)) 0 places → record { answer = gives n; coordinates = t } ≡ patchGiven (intakeRules foot (countRule n) l) n places
           take-taken y =
-              handed-done (takeRules foot (countRule n) l) n places
+              handed-done (intakeRules foot (countRule n) l) n places
               (h, unbroken-append (turnRules foot l) (shapeRules places) turned (refusal-unbroken (shapeRules places) (shots-numbered places .1 .1) (sym (p ∙ placed) ∙ y)))
 
 -- ---- two runs
@@ -97,7 +97,7 @@ module _ (u : List ℕ) (v : List Float) where
   unfolding takeOf takeRunsOf
   taken-same h e p =
       let s = ap (take (length u)) p ∙ runs-shots h in
-      λ k. patchGiven (takeRules surveyFoot (record { number = 1; broken = kept k }) (s k)) (length u) (millimetresOf surveyFoot (s k))
+      λ k. patchGiven (intakeRules surveyFoot (record { number = 1; broken = kept k }) (s k)) (length u) (millimetresOf surveyFoot (s k))
     where
       kept : countRule (length u) .broken ≡ runsRule u v .broken
       kept = sym (or-false (countRule (length u) .broken)) ∙ ap (λ (b : Bool). countRule (length u) .broken || not b) (sym (eq-eqb (length v) (2 * length u) e))

@@ -5,10 +5,11 @@
 use mathlib.Core.Path.{_≡_, refl, sym, ap, _∙_, subst}
 use mathlib.Core.Bool.{Bool, true, false, not, cond, Bool·beq, _&&_, _||_}
 use Prim.Native.Nat.{ℕ, zero, suc, _+_, _-_, _*_, _^_}
-use lib.Dec.{T, ltb, eqb, eqb-refl}
-use lib.Ieee.{Float, nan, inf, fin, Format, binary64, prec, emax, low, up, down, unlike, odd, units, round, sum, sub, mul, div, eq, isNan}
+use lib.Dec.{T, ltb, eqb}
+use lib.Ieee.{Float, nan, inf, fin, Format, binary64, prec, emax, low, up, down, unlike, odd, units, round, sum, sub, mul, div, eq, ne, isNan}
 use lib.Ieee.Bits.{is-true}
-use lib.Ieee.Fits.{and-i, round-is}
+use lib.Ieee.Compare.{differs-from-itself}
+use lib.Ieee.Fits.{round-is}
 use lib.Ieee.Scale.{finite}
 use Rattle.algebra.specs.Loops.{anyOf}
 use Rattle.intake.specs.Scaling.{float, ofMetres, multiplied, ofFeet, scaledOf, answersOf}
@@ -16,21 +17,15 @@ use Rattle.intake.specs.declared.Shot.{Shot}
 use Rattle.intake.specs.declared.Shot.the-variants.{Metres, Feet}
 use Rattle.intake.specs.declared.Foot.{Foot}
 
--- ---- equal to itself
-
-alike : (s : Bool) → T (Bool·beq s s)
-alike true = tt
-alike false = tt
-
-level-self : (s : Bool) (a : ℕ) → T (eqb a a && (Bool·beq s s || eqb a 0))
-level-self true a = and-i (eqb a a) true (eqb-refl a) tt
-level-self false a = and-i (eqb a a) true (eqb-refl a) tt
+-- ---- what is no NaN equals itself
 
 self : (z : Float) → T (not (isNan z)) → T (eq z z)
-unfolding eq isNan
-self nan h = h
-self (inf s) h = alike s
-self (fin s m e) h = level-self s (m * up e * down e)
+unfolding ne isNan
+self z h = go (eq z z) refl
+  where
+    go : (b : Bool) → eq z z ≡ b → T b
+    go true e = tt
+    go false e = subst (λ (y : Float). T (not (isNan y))) (differs-from-itself z (subst (λ (b : Bool). T (not b)) (sym e) tt)) h
 
 -- ---- no rounding gives a NaN
 

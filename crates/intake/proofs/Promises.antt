@@ -1,7 +1,7 @@
 -- What the two calls promise: each gives a refusal number exactly when that number's line is the first that holds, the number of shots exactly when no line holds, and no other answer is permitted;
 -- and the coordinates handed out are the nearest whole numbers of the scaled east and north.
 --
---   range-decided, finite-decided, turns-decided, rules-decided, count-decided, runs-decided     the tests decide the lines, for every pair of factors
+--   range-decided, finite-decided, turns-decided, rules-decided, count-decided, equal-decided     the tests decide the lines, for every pair of factors
 --   take-refuses, take-gives, take-runs-refuses, take-runs-gives
 --   take-coordinates, take-refused, take-runs-coordinates, take-runs-refused    the array beside the answer
 --   take-accepted, take-runs-accepted             what is handed out is an accepted patch
@@ -21,7 +21,7 @@ use lib.Seq.{getD-take}
 use lib.IntN.{ℤ, pos, natAbs}
 use lib.Ieee.{Float, nan, inf, fin}
 use lib.Ieee.Scale.{finite}
-use Rattle.algebra.specs.Answer.{gives, refuses, Rule, Line, First, Clear, Reflects, holds, fails, Decides}
+use Rattle.algebra.specs.Answer.{gives, refuses, Rule, First, Clear, Reflects, holds, fails, Decides}
 use Rattle.algebra.specs.Writing.{wrote}
 use Rattle.algebra.proofs.AnswerLaws.{Unbroken, append-unbroken, unbroken-refusal, decides-append, reflects-iff, reflects-not, reflects-or, reflects-ltb, reflects-eqb}
 use Rattle.algebra.proofs.LoopLaws.{length-tabulate, getD-tabulate, reflects-anyOf, or-parts}
@@ -35,9 +35,9 @@ use Rattle.shots.proofs.Promises.{shots-decided}
 use Rattle.shots.proofs.HandedLaws.{handed-refuses, handed-gives, handed-coordinates, handed-refused, handed-kept, handed-front, patch-one}
 use Rattle.intake.specs.Nearest.{Nearest, wholeOf}
 use Rattle.intake.specs.Scaling.{surveyFoot, scaledOf, answersOf, millimetresOf, atOrigin}
-use Rattle.intake.specs.Tests.{farOff, finiteRule, turnRules, countRule, takeRules}
+use Rattle.intake.specs.Tests.{farOff, finiteRule, turnRules, countRule, intakeRules}
 use Rattle.intake.specs.Runs.{shotIn, shotsIn, runsRule}
-use Rattle.intake.specs.Lines.{NotFinite, OutOfRange, turnLines, takeLines, FewOrMany, Unequal}
+use Rattle.intake.specs.Lines.{NotFinite, OutOfRange, turnLines, intakeLines, FewOrMany, Unequal, takeLines, takeRunsLines}
 use Rattle.intake.specs.Calls.{takeOf, takeRunsOf}
 use Rattle.intake.specs.declared.Shot.{Shot}
 use Rattle.intake.specs.declared.Foot.{Foot}
@@ -74,35 +74,35 @@ module _ (foot : Foot) where
   turns-decided (s ∷ l) =
       (refl, finite-decided foot s, (refl, reflects-or (range-decided (scaledOf foot s .east)) (range-decided (scaledOf foot s .north)), turns-decided l))
 
-  pub rules-decided : (c : Type 0) (r : Rule) (l : List Shot) → r .number ≡ 1 → Reflects c (r .broken) → Decides (takeRules foot r l) (takeLines foot c l)
+  pub rules-decided : (c : Type 0) (r : Rule) (l : List Shot) → r .number ≡ 1 → Reflects c (r .broken) → Decides (intakeRules foot r l) (intakeLines foot c l)
   rules-decided c r l e d =
       (e, d, decides-append (turnRules foot l) (shapeRules (millimetresOf foot l)) (turnLines foot l) (shapeLines (millimetresOf foot l)) (turns-decided l) (shots-decided (millimetresOf foot l) .2 .2))
 
 pub count-decided : (n : ℕ) → Reflects (FewOrMany n) (countRule n .broken)
 count-decided n = reflects-or (reflects-ltb n shotsLeast) (reflects-ltb shotsMost n)
 
-pub runs-decided : (u : List ℕ) (v : List Float) → Reflects (FewOrMany (length u) ⊎ Unequal u v) (runsRule u v .broken)
-runs-decided u v = reflects-or (count-decided (length u)) (reflects-not (reflects-eqb (length v) (2 * length u)))
+pub equal-decided : (u : List ℕ) (v : List Float) → Reflects (FewOrMany (length u) ⊎ Unequal u v) (runsRule u v .broken)
+equal-decided u v = reflects-or (count-decided (length u)) (reflects-not (reflects-eqb (length v) (2 * length u)))
 
 -- ---- what is handed out, for every pair of factors: n shots l, with a rule r that keeps their number in range
 
 module _ (foot : Foot) (r : Rule) (l : List Shot) (n : ℕ) (many : length l ≡ n) (kept : r .broken ≡ false → countRule n .broken ≡ false) (m : ℕ) where
   abbrev out : PatchRead
-  out = patchGiven (takeRules foot r l) n (millimetresOf foot l)
+  out = patchGiven (intakeRules foot r l) n (millimetresOf foot l)
 
   module _ (e : out .answer ≡ gives m) where
-    unbroken : Unbroken (takeRules foot r l)
-    unbroken = handed-kept (takeRules foot r l) n (millimetresOf foot l) m e .0
+    unbroken : Unbroken (intakeRules foot r l)
+    unbroken = handed-kept (intakeRules foot r l) n (millimetresOf foot l) m e .0
 
     parts : Unbroken (turnRules foot l) × Unbroken (shapeRules (millimetresOf foot l))
     parts = append-unbroken (turnRules foot l) (shapeRules (millimetresOf foot l)) (unbroken .1)
 
     same : n ≡ m
-    same = handed-kept (takeRules foot r l) n (millimetresOf foot l) m e .1
+    same = handed-kept (intakeRules foot r l) n (millimetresOf foot l) m e .1
 
     front : take (2 * m) (out .coordinates) ≡ millimetresOf foot l
     front =
-        handed-front (takeRules foot r l) n (millimetresOf foot l) (millimetres-length foot l ∙ ap (λ (k : ℕ). 2 * k) many)
+        handed-front (intakeRules foot r l) n (millimetresOf foot l) (millimetres-length foot l ∙ ap (λ (k : ℕ). 2 * k) many)
         (count-few n (kept (unbroken .0)) .1) m e
 
     pub taken-accepted : refusalOf (take (2 * m) (out .coordinates)) ≡ 0
@@ -126,33 +126,30 @@ module _ (foot : Foot) (r : Rule) (l : List Shot) (n : ℕ) (many : length l ≡
 -- ---- take
 
 module _ (l : List Shot) (n : ℕ) where
-  abbrev lines : List Line
-  lines = takeLines surveyFoot (FewOrMany n) (take n l)
-
-  decided : Decides (takeRules surveyFoot (countRule n) (take n l)) lines
+  decided : Decides (intakeRules surveyFoot (countRule n) (take n l)) (takeLines l n)
   decided = rules-decided surveyFoot (FewOrMany n) (countRule n) (take n l) refl (count-decided n)
 
-  pub take-refuses : (k : ℕ) → (takeOf l n .answer ≡ refuses k) ↔ First k (takeLines surveyFoot (FewOrMany n) (take n l))
+  pub take-refuses : (k : ℕ) → (takeOf l n .answer ≡ refuses k) ↔ First k (takeLines l n)
   unfolding takeOf
-  take-refuses = handed-refuses (takeRules surveyFoot (countRule n) (take n l)) n (millimetresOf surveyFoot (take n l)) lines decided
+  take-refuses = handed-refuses (intakeRules surveyFoot (countRule n) (take n l)) n (millimetresOf surveyFoot (take n l)) (takeLines l n) decided
 
-  pub take-gives : (m : ℕ) → (takeOf l n .answer ≡ gives m) ↔ (Clear (takeLines surveyFoot (FewOrMany n) (take n l)) × (n ≡ m))
+  pub take-gives : (m : ℕ) → (takeOf l n .answer ≡ gives m) ↔ (Clear (takeLines l n) × (n ≡ m))
   unfolding takeOf
-  take-gives = handed-gives (takeRules surveyFoot (countRule n) (take n l)) n (millimetresOf surveyFoot (take n l)) lines decided
+  take-gives = handed-gives (intakeRules surveyFoot (countRule n) (take n l)) n (millimetresOf surveyFoot (take n l)) (takeLines l n) decided
 
-  pub take-coordinates : Clear (takeLines surveyFoot (FewOrMany n) (take n l)) → takeOf l n .coordinates ≡ wrote (replicate coordinatesMost (pos 0)) 0 (millimetresOf surveyFoot (take n l))
+  pub take-coordinates : Clear (takeLines l n) → takeOf l n .coordinates ≡ wrote (replicate coordinatesMost (pos 0)) 0 (millimetresOf surveyFoot (take n l))
   unfolding takeOf
-  take-coordinates = handed-coordinates (takeRules surveyFoot (countRule n) (take n l)) n (millimetresOf surveyFoot (take n l)) lines decided
+  take-coordinates = handed-coordinates (intakeRules surveyFoot (countRule n) (take n l)) n (millimetresOf surveyFoot (take n l)) (takeLines l n) decided
 
-  pub take-refused : (k : ℕ) → First k (takeLines surveyFoot (FewOrMany n) (take n l)) → takeOf l n .coordinates ≡ replicate coordinatesMost (pos 0)
+  pub take-refused : (k : ℕ) → First k (takeLines l n) → takeOf l n .coordinates ≡ replicate coordinatesMost (pos 0)
   unfolding takeOf
-  take-refused = handed-refused (takeRules surveyFoot (countRule n) (take n l)) n (millimetresOf surveyFoot (take n l)) lines decided
+  take-refused = handed-refused (intakeRules surveyFoot (countRule n) (take n l)) n (millimetresOf surveyFoot (take n l)) (takeLines l n) decided
 
   -- of an array of ten
   module _ (wide : length l ≡ shotsMost) (m : ℕ) (e : takeOf l n .answer ≡ gives m) where
     few : n ≤ shotsMost
     unfolding takeOf
-    few = count-few n (handed-kept (takeRules surveyFoot (countRule n) (take n l)) n (millimetresOf surveyFoot (take n l)) m e .0 .0) .1
+    few = count-few n (handed-kept (intakeRules surveyFoot (countRule n) (take n l)) n (millimetresOf surveyFoot (take n l)) m e .0 .0) .1
 
     many : length (take n l) ≡ n
     many = omega (arith, length-take n l, wide, few)
@@ -170,27 +167,24 @@ module _ (l : List Shot) (n : ℕ) where
 -- ---- take_runs
 
 module _ (u : List ℕ) (v : List Float) where
-  abbrev runs-lines : List Line
-  runs-lines = takeLines surveyFoot (FewOrMany (length u) ⊎ Unequal u v) (shotsIn u v)
+  runs-decided : Decides (intakeRules surveyFoot (runsRule u v) (shotsIn u v)) (takeRunsLines u v)
+  runs-decided = rules-decided surveyFoot (FewOrMany (length u) ⊎ Unequal u v) (runsRule u v) (shotsIn u v) refl (equal-decided u v)
 
-  runs-rules-decided : Decides (takeRules surveyFoot (runsRule u v) (shotsIn u v)) runs-lines
-  runs-rules-decided = rules-decided surveyFoot (FewOrMany (length u) ⊎ Unequal u v) (runsRule u v) (shotsIn u v) refl (runs-decided u v)
-
-  pub take-runs-refuses : (k : ℕ) → (takeRunsOf u v .answer ≡ refuses k) ↔ First k (takeLines surveyFoot (FewOrMany (length u) ⊎ Unequal u v) (shotsIn u v))
+  pub take-runs-refuses : (k : ℕ) → (takeRunsOf u v .answer ≡ refuses k) ↔ First k (takeRunsLines u v)
   unfolding takeRunsOf
-  take-runs-refuses = handed-refuses (takeRules surveyFoot (runsRule u v) (shotsIn u v)) (length u) (millimetresOf surveyFoot (shotsIn u v)) runs-lines runs-rules-decided
+  take-runs-refuses = handed-refuses (intakeRules surveyFoot (runsRule u v) (shotsIn u v)) (length u) (millimetresOf surveyFoot (shotsIn u v)) (takeRunsLines u v) runs-decided
 
-  pub take-runs-gives : (m : ℕ) → (takeRunsOf u v .answer ≡ gives m) ↔ (Clear (takeLines surveyFoot (FewOrMany (length u) ⊎ Unequal u v) (shotsIn u v)) × (length u ≡ m))
+  pub take-runs-gives : (m : ℕ) → (takeRunsOf u v .answer ≡ gives m) ↔ (Clear (takeRunsLines u v) × (length u ≡ m))
   unfolding takeRunsOf
-  take-runs-gives = handed-gives (takeRules surveyFoot (runsRule u v) (shotsIn u v)) (length u) (millimetresOf surveyFoot (shotsIn u v)) runs-lines runs-rules-decided
+  take-runs-gives = handed-gives (intakeRules surveyFoot (runsRule u v) (shotsIn u v)) (length u) (millimetresOf surveyFoot (shotsIn u v)) (takeRunsLines u v) runs-decided
 
-  pub take-runs-coordinates : Clear (takeLines surveyFoot (FewOrMany (length u) ⊎ Unequal u v) (shotsIn u v)) → takeRunsOf u v .coordinates ≡ wrote (replicate coordinatesMost (pos 0)) 0 (millimetresOf surveyFoot (shotsIn u v))
+  pub take-runs-coordinates : Clear (takeRunsLines u v) → takeRunsOf u v .coordinates ≡ wrote (replicate coordinatesMost (pos 0)) 0 (millimetresOf surveyFoot (shotsIn u v))
   unfolding takeRunsOf
-  take-runs-coordinates = handed-coordinates (takeRules surveyFoot (runsRule u v) (shotsIn u v)) (length u) (millimetresOf surveyFoot (shotsIn u v)) runs-lines runs-rules-decided
+  take-runs-coordinates = handed-coordinates (intakeRules surveyFoot (runsRule u v) (shotsIn u v)) (length u) (millimetresOf surveyFoot (shotsIn u v)) (takeRunsLines u v) runs-decided
 
-  pub take-runs-refused : (k : ℕ) → First k (takeLines surveyFoot (FewOrMany (length u) ⊎ Unequal u v) (shotsIn u v)) → takeRunsOf u v .coordinates ≡ replicate coordinatesMost (pos 0)
+  pub take-runs-refused : (k : ℕ) → First k (takeRunsLines u v) → takeRunsOf u v .coordinates ≡ replicate coordinatesMost (pos 0)
   unfolding takeRunsOf
-  take-runs-refused = handed-refused (takeRules surveyFoot (runsRule u v) (shotsIn u v)) (length u) (millimetresOf surveyFoot (shotsIn u v)) runs-lines runs-rules-decided
+  take-runs-refused = handed-refused (intakeRules surveyFoot (runsRule u v) (shotsIn u v)) (length u) (millimetresOf surveyFoot (shotsIn u v)) (takeRunsLines u v) runs-decided
 
   runs-many : length (shotsIn u v) ≡ length u
   unfolding shotsIn

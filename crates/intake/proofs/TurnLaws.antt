@@ -5,7 +5,7 @@
 --   Kept foot l n i    a loop that looks for a refused shot of the first n has come to i; `turn-kept`, `turn-broken`, `turns-end`: it goes on, has found one, has found none
 --   Writes, Rest       one that writes their coordinates has; `writes-none`, `writes-turn`, `writes-end`, `rest-fine`, `rest-on`: it begins, goes on, has written all
 --   turns-numbered     the rules have numbers that are not 0
---   shot-fine          where a shot's two rules are kept, its two numbers are finite and in range
+--   Fine z             the scaled numbers of a shot that is not refused; `shot-fine`: so they are where its two rules are kept
 --   turns-near         then every coordinate is within its range
 --   millimetres-length, millimetres-at     how many coordinates there are, and those of shot i
 --   turns-at           the rules of shot i are kept where all are
@@ -32,6 +32,7 @@ use Rattle.intake.specs.Scaling.{scaledOf, millimetresOf, atOrigin}
 use Rattle.intake.specs.Tests.{farOff, numberAt, finiteRule, rangeRule, shotNumber, turnRules}
 use Rattle.intake.specs.declared.Shot.{Shot}
 use Rattle.intake.specs.declared.Foot.{Foot}
+use Rattle.intake.specs.declared.Scaled.{Scaled}
 use Rattle.intake.proofs.Finiteness.{last-tells}
 
 -- ---- one shot
@@ -61,8 +62,11 @@ fine true true e = (refl, refl)
 fine true false e = absurd (true≢false e)
 fine false b e = absurd (true≢false e)
 
-pub shot-fine : (foot : Foot) (s : Shot) → finiteRule foot s .broken ≡ false → rangeRule foot s .broken ≡ false
-    → ((finite (scaledOf foot s .east) ≡ true) × (farOff (scaledOf foot s .east) ≡ false)) × ((finite (scaledOf foot s .north) ≡ true) × (farOff (scaledOf foot s .north) ≡ false))
+-- the scaled numbers of a shot that is not refused: finite, and not far off
+abbrev pub Fine : Scaled → Type 0
+Fine z = ((finite (z .east) ≡ true) × (farOff (z .east) ≡ false)) × ((finite (z .north) ≡ true) × (farOff (z .north) ≡ false))
+
+pub shot-fine : (foot : Foot) (s : Shot) → finiteRule foot s .broken ≡ false → rangeRule foot s .broken ≡ false → Fine (scaledOf foot s)
 shot-fine foot s p q =
     let (e, n) = fine (finite (scaledOf foot s .east)) (finite (scaledOf foot s .north)) (sym (last-tells foot s) ∙ p) in
     let (f, g) = or-parts (farOff (scaledOf foot s .east)) (farOff (scaledOf foot s .north)) q in
@@ -120,7 +124,7 @@ module _ (foot : Foot) (l : List Shot) (n i : ℕ) where
     here : drop i (take n l) ≡ getD l i d ∷ drop (i + 1) (take n l)
     here = left-cons l n i d w h
 
-    pub rest-fine : Rest → ((finite (scaledOf foot (getD l i d) .east) ≡ true) × (farOff (scaledOf foot (getD l i d) .east) ≡ false)) × ((finite (scaledOf foot (getD l i d) .north) ≡ true) × (farOff (scaledOf foot (getD l i d) .north) ≡ false))
+    pub rest-fine : Rest → Fine (scaledOf foot (getD l i d))
     rest-fine r = let u = subst (λ (s : List Shot). Unbroken (turnRules foot s)) here r in shot-fine foot (getD l i d) (u .0) (u .1 .0)
 
     pub rest-on : Rest → Unbroken (turnRules foot (drop (i + 1) (take n l)))

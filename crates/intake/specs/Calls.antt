@@ -10,12 +10,12 @@ use lib.ListN.{length, take}
 use lib.Ieee.{Float}
 use Rattle.shots.specs.Calls.{PatchRead, patchGiven}
 use Rattle.intake.specs.Scaling.{surveyFoot, millimetresOf}
-use Rattle.intake.specs.Tests.{countRule, takeRules}
+use Rattle.intake.specs.Tests.{countRule, intakeRules}
 use Rattle.intake.specs.Runs.{shotsIn, runsRule}
 use Rattle.intake.specs.declared.Shot.{Shot}
 
 unfoldable pub takeOf : List Shot → ℕ → PatchRead
-takeOf l n = patchGiven (takeRules surveyFoot (countRule n) (take n l)) n (millimetresOf surveyFoot (take n l))
+takeOf l n = patchGiven (intakeRules surveyFoot (countRule n) (take n l)) n (millimetresOf surveyFoot (take n l))
 
 unfoldable pub takeRunsOf : List ℕ → List Float → PatchRead
-takeRunsOf u v = patchGiven (takeRules surveyFoot (runsRule u v) (shotsIn u v)) (length u) (millimetresOf surveyFoot (shotsIn u v))
+takeRunsOf u v = patchGiven (intakeRules surveyFoot (runsRule u v) (shotsIn u v)) (length u) (millimetresOf surveyFoot (shotsIn u v))

@@ -3,9 +3,10 @@
 --   NotFinite foot s     16: of a shot's east, its north and the answers of the operations, one is not finite
 --   OutOfRange x         the whole number nearest to x is beyond the range of a coordinate
 --   turnLines foot l     for each shot of l in turn 16, and 2: a whole number taken is beyond its range
---   takeLines foot c l   1 where c is so; those of each shot; then 3 and 4, on the whole numbers
+--   intakeLines foot c l 1 where c is so; those of each shot; then 3 and 4, on the whole numbers
 --   FewOrMany n          not 3 to 10 shots
 --   Unequal u v          not two floats for each unit
+--   takeLines l n, takeRunsLines u v    the tables of the two calls
 --
 -- The theorems: proofs/Promises. Source: document 02, E2.
 use mathlib.Core.Path.{_≡_}
@@ -13,7 +14,7 @@ use mathlib.Core.Logic.{_⊎_}
 use mathlib.Core.Bool.{false}
 use mathlib.Core.List.{List, [], _∷_, _++_, List·Memᴰ}
 use Prim.Native.Nat.{ℕ, _*_, _<_}
-use lib.ListN.{length}
+use lib.ListN.{length, take}
 use lib.IntN.{ℤ, natAbs}
 use lib.Ieee.{Float}
 use lib.Ieee.Scale.{finite}
@@ -21,7 +22,8 @@ use Rattle.algebra.specs.Answer.{Line}
 use Rattle.shots.specs.Sizes.{shotsLeast, shotsMost, farthest}
 use Rattle.shots.specs.Lines.{shapeLines}
 use Rattle.intake.specs.Nearest.{Nearest}
-use Rattle.intake.specs.Scaling.{scaledOf, answersOf, millimetresOf}
+use Rattle.intake.specs.Scaling.{surveyFoot, scaledOf, answersOf, millimetresOf}
+use Rattle.intake.specs.Runs.{shotsIn}
 use Rattle.intake.specs.declared.Shot.{Shot}
 use Rattle.intake.specs.declared.Foot.{Foot}
 
@@ -38,11 +40,17 @@ turnLines foot (s ∷ l) =
     ∷ record { number = 2; when = OutOfRange (scaledOf foot s .east) ⊎ OutOfRange (scaledOf foot s .north) }
     ∷ turnLines foot l
 
-abbrev pub takeLines : Foot → Type 0 → List Shot → List Line
-takeLines foot c l = record { number = 1; when = c } ∷ (turnLines foot l ++ shapeLines (millimetresOf foot l))
+abbrev pub intakeLines : Foot → Type 0 → List Shot → List Line
+intakeLines foot c l = record { number = 1; when = c } ∷ (turnLines foot l ++ shapeLines (millimetresOf foot l))
 
 abbrev pub FewOrMany : ℕ → Type 0
 FewOrMany n = (n < shotsLeast) ⊎ (shotsMost < n)
 
 abbrev pub Unequal : List ℕ → List Float → Type 0
 Unequal u v = length v ≡ 2 * length u → ⊥
+
+abbrev pub takeLines : List Shot → ℕ → List Line
+takeLines l n = intakeLines surveyFoot (FewOrMany n) (take n l)
+
+abbrev pub takeRunsLines : List ℕ → List Float → List Line
+takeRunsLines u v = intakeLines surveyFoot (FewOrMany (length u) ⊎ Unequal u v) (shotsIn u v)

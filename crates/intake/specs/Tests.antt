@@ -7,7 +7,7 @@
 --   shotNumber foot s    the number that refuses a shot, 0 where none does
 --   turnRules foot l     those two rules of each shot of l in turn
 --   countRule n          1: not 3 to 10 shots
---   takeRules foot r l   the rule r of the number of shots; then each shot's in turn; then 3 and 4, on the whole numbers
+--   intakeRules foot r l the rule r of the number of shots; then each shot's in turn; then 3 and 4, on the whole numbers
 --
 -- Source: document 02, E2.
 use mathlib.Core.Bool.{Bool, not, cond, _||_}
@@ -48,5 +48,5 @@ turnRules foot (s ∷ l) = finiteRule foot s ∷ rangeRule foot s ∷ turnRules 
 abbrev pub countRule : ℕ → Rule
 countRule n = record { number = 1; broken = ltb n shotsLeast || ltb shotsMost n }
 
-abbrev pub takeRules : Foot → Rule → List Shot → List Rule
-takeRules foot r l = r ∷ (turnRules foot l ++ shapeRules (millimetresOf foot l))
+abbrev pub intakeRules : Foot → Rule → List Shot → List Rule
+intakeRules foot r l = r ∷ (turnRules foot l ++ shapeRules (millimetresOf foot l))

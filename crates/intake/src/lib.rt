@@ -93,5 +93,5 @@ pub fn take_runs(units: &[u8], values: &[f64]) -> Handed
     if values.len() != 2 * count {
         return refused(1);
     }
-    take(runs::shots(units, values), count)
+    take(runs::gathered(units, values), count)
 }

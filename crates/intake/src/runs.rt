@@ -22,7 +22,7 @@ fn shot_in(units: &[u8], values: &[f64], i: usize) -> Shot
 }
 
 // The shots in front of an array.
-pub fn shots(units: &[u8], values: &[f64]) -> [Shot; SHOTS_MOST]
+pub fn gathered(units: &[u8], values: &[f64]) -> [Shot; SHOTS_MOST]
     requires { ⌜ (length (now units) ≤ shotsMost) × (length (now values) ≡ 2 * length (now units)) ⌝ }
     ensures { λ r. ⌜ r ≡ wrote (replicate shotsMost atOrigin) 0 (shotsIn (now (units .entry)) (now (values .entry))) ⌝ }
 {

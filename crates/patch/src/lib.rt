@@ -170,10 +170,10 @@ pub extern "C" fn patch_take_runs(
     let answer = taken.answer;
     let coordinates = taken.coordinates;
     match answer {
-        Patched::Refused(number) => number,
-        Patched::Shots(n) => {
+        Patched::Refused(refusal) => refusal,
+        Patched::Shots(given) => {
             *shots = coordinates;
-            *count = n;
+            *count = given;
             0
         }
     }

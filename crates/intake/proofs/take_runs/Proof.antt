@@ -45,15 +45,15 @@ returns-2 c =
     ∙ take-miscounted surveyFoot (shotsIn u v) (length u) (runsRule u v)
     ((λ k. counted e k || not (eqb (length v) (2 * length u))) ∙ ap not (ne-eqb (length v) (2 * length u) (c .before .if2 .taken)))
 
-shots-requires : tie.Need-shots-requires
-shots-requires c κs = (few (c .before), c .if2 .left)
+gathered-requires : tie.Need-gathered-requires
+gathered-requires c κs = (few (c .before), c .if2 .left)
 
 returns-3 : tie.Need-returns-3
 returns-3 c =
     let d = c .before in
     let e = d .before .before in
     let s = e .before .before .before .before in
-    c .take .ensures ∙ taken-same (s .args .units .now) (s .args .values .now) (few e) (d .before .if2 .left) (d .shots .ensures)
+    c .take .ensures ∙ taken-same (s .args .units .now) (s .args .values .now) (few e) (d .before .if2 .left) (d .gathered .ensures)
 
 pub take-runs-spec : {M : Type 1} → statement M
 take-runs-spec =
@@ -65,6 +65,6 @@ take-runs-spec =
     mul-if2
     (λ c κs. search needs)
     returns-2
-    shots-requires
+    gathered-requires
     (λ c κs. search needs)
     returns-3)

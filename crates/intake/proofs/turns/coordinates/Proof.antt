@@ -1,21 +1,19 @@
 -- `intake::turns::coordinates` meets its contract: after i turns the coordinates of the shots from i on are still to be written.
 use mathlib.Core.Path.{_≡_, refl, sym, _∙_, ap, subst}
-use mathlib.Core.Bool.{true, false}
 use Prim.Native.Nat.{_-_, _≤_}
 use native.Mathlib.Omega.{arith}
 use borrow.Author.Needs.{needs}
 use lib.ListN.{length, take, set, replicate, length-set}
 use lib.IntN.{pos}
-use lib.Ieee.Scale.{finite}
 use mir.Syntax.{w32}
 use Rattle.algebra.proofs.AnswerLaws.{refusal-unbroken}
 use Rattle.algebra.proofs.SizeLaws.{read-back}
 use Rattle.shots.specs.Sizes.{coordinatesMost}
 use Rattle.intake.specs.Nearest.{wholeOf}
 use Rattle.intake.specs.Scaling.{atOrigin}
-use Rattle.intake.specs.Tests.{farOff, turnRules}
+use Rattle.intake.specs.Tests.{turnRules}
 use Rattle.intake.specs.declared.Scaled.{Scaled}
-use Rattle.intake.proofs.TurnLaws.{turns-numbered, Writes, writes-none, writes-turn, writes-end, Rest, rest-fine, rest-on}
+use Rattle.intake.proofs.TurnLaws.{turns-numbered, Fine, Writes, writes-none, writes-turn, writes-end, Rest, rest-fine, rest-on}
 use Rattle.intake.proofs.turns.coordinates.Statement.{statement}
 use Rattle.intake.proofs.turns.coordinates.Tie as tie
 
@@ -37,11 +35,10 @@ given : (s : tie.Start Inv-loop μ-loop) → s .args .count ≤ length (s .args 
 given s = search needs
 
 -- the scaled numbers of this turn's shot are finite and in range
-fine : (c : tie.After-scale Inv-loop μ-loop) → let z = c .scale .result in
-    ((finite (z .east) ≡ true) × (farOff (z .east) ≡ false)) × ((finite (z .north) ≡ true) × (farOff (z .north) ≡ false))
+fine : (c : tie.After-scale Inv-loop μ-loop) → Fine (c .scale .result)
 fine c =
     let q = c .before .before .before in
-    subst (λ (z : Scaled). ((finite (z .east) ≡ true) × (farOff (z .east) ≡ false)) × ((finite (z .north) ≡ true) × (farOff (z .north) ≡ false))) (sym (c .scale .ensures))
+    subst Fine (sym (c .scale .ensures))
     (rest-fine _ _ _ _ _ (given (q .before)) (c .before .before .loop-test .taken) (q .loop .inv .3))
 
 whole-requires : tie.Need-whole-requires Inv-loop μ-loop

@@ -1,4 +1,4 @@
--- `intake::runs::shots` meets its contract: after i turns the shots from i on are still to be written.
+-- `intake::runs::gathered` meets its contract: after i turns the shots from i on are still to be written.
 use mathlib.Core.Path.{_≡_, refl, sym, _∙_, ap}
 use mathlib.Core.List.{List}
 use Prim.Native.Nat.{ℕ, _+_, _-_, _≤_, _<_}
@@ -13,8 +13,8 @@ use Rattle.shots.specs.Sizes.{shotsMost}
 use Rattle.intake.specs.Scaling.{atOrigin}
 use Rattle.intake.specs.Runs.{shotIn, shotsIn}
 use Rattle.intake.specs.declared.Shot.{Shot}
-use Rattle.intake.proofs.runs.shots.Statement.{statement}
-use Rattle.intake.proofs.runs.shots.Tie as tie
+use Rattle.intake.proofs.runs.gathered.Statement.{statement}
+use Rattle.intake.proofs.runs.gathered.Tie as tie
 
 abbrev Inv-loop : tie.InvT-loop
 Inv-loop units values out₀ i₀ out i =
@@ -51,8 +51,8 @@ loop-again c =
 returns : tie.Need-returns Inv-loop μ-loop
 returns c = let q = c .before in let s = q .before .before .before in end (s .args .units .now) (s .args .values .now) _ (q .loop .out) (q .loop .i) (q .loop .inv .2) (c .loop-test .left)
 
-pub shots-spec : {M : Type 1} → statement M
-shots-spec =
+pub gathered-spec : {M : Type 1} → statement M
+gathered-spec =
     tie.close
     (tie.spec
     Inv-loop
