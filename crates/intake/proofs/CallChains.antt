@@ -1,12 +1,12 @@
 -- What the tests of the two calls have found out so far, and what that says of the answer. r is the rule of the number of shots, l the shots, n their number.
 --
---   count-few          what it says of n that the rule of the number of shots is kept
+--   count-few          where the rule of the number of shots is kept, the array has room for them
 --   take-miscounted    the number of shots is refused
 --   take-turned        a shot is
 --   shots-placed       the whole numbers' own rules 1 and 2 are kept, so `refusal` of the room shots says 3 or 4
 --   take-unplaced      they are refused by 3 or 4
 --   take-taken         none is
---   runs-shots, taken-same    the array that is made of two runs holds their shots, and they are taken as the array's
+--   taken-same         the array that is made of two runs holds their shots, so they are taken as the array's
 use mathlib.Core.Path.{_≡_, refl, sym, _∙_, ap}
 use mathlib.Core.Bool.{Bool, true, false, not, _||_, or-false}
 use mathlib.Core.List.{List, [], _++_}
@@ -36,8 +36,8 @@ use Rattle.intake.specs.declared.Shot.{Shot}
 use Rattle.intake.specs.declared.Foot.{Foot}
 use Rattle.intake.proofs.TurnLaws.{turns-numbered, turns-near, millimetres-length}
 
-pub count-few : (n : ℕ) → countRule n .broken ≡ false → (shotsLeast ≤ n) × (n ≤ shotsMost)
-count-few n h = let (p, q) = or-parts (ltb n shotsLeast) (ltb shotsMost n) h in (ltb-false n shotsLeast p, ltb-false shotsMost n q)
+pub count-few : (n : ℕ) → countRule n .broken ≡ false → n ≤ shotsMost
+count-few n h = ltb-false shotsMost n (or-parts (ltb n shotsLeast) (ltb shotsMost n) h .1)
 
 module _ (foot : Foot) (l : List Shot) (n : ℕ) where
   abbrev places : List ℤ
@@ -86,7 +86,7 @@ module _ (foot : Foot) (l : List Shot) (n : ℕ) where
 -- ---- two runs
 
 module _ (u : List ℕ) (v : List Float) where
-  pub runs-shots : length u ≤ shotsMost → take (length u) (wrote (replicate shotsMost atOrigin) 0 (shotsIn u v)) ≡ shotsIn u v
+  runs-shots : length u ≤ shotsMost → take (length u) (wrote (replicate shotsMost atOrigin) 0 (shotsIn u v)) ≡ shotsIn u v
   unfolding shotsIn
   runs-shots h =
       let m = length-tabulate (shotIn u v) (length u) in

@@ -103,7 +103,7 @@ module _ (foot : Foot) (r : Rule) (l : List Shot) (n : ℕ) (many : length l ≡
     front : take (2 * m) (out .coordinates) ≡ millimetresOf foot l
     front =
         handed-front (intakeRules foot r l) n (millimetresOf foot l) (millimetres-length foot l ∙ ap (λ (k : ℕ). 2 * k) many)
-        (count-few n (kept (unbroken .0)) .1) m e
+        (count-few n (kept (unbroken .0))) m e
 
     pub taken-accepted : refusalOf (take (2 * m) (out .coordinates)) ≡ 0
     taken-accepted = ap refusalOf front ∙ shots-placed foot l n (kept (unbroken .0)) (parts .0) many ∙ unbroken-refusal (shapeRules (millimetresOf foot l)) (parts .1)
@@ -149,7 +149,7 @@ module _ (l : List Shot) (n : ℕ) where
   module _ (wide : length l ≡ shotsMost) (m : ℕ) (e : takeOf l n .answer ≡ gives m) where
     few : n ≤ shotsMost
     unfolding takeOf
-    few = count-few n (handed-kept (intakeRules surveyFoot (countRule n) (take n l)) n (millimetresOf surveyFoot (take n l)) m e .0 .0) .1
+    few = count-few n (handed-kept (intakeRules surveyFoot (countRule n) (take n l)) n (millimetresOf surveyFoot (take n l)) m e .0 .0)
 
     many : length (take n l) ≡ n
     many = omega (arith, length-take n l, wide, few)

@@ -1,10 +1,9 @@
 -- Why the code's comparisons and its one sum find the whole number: a size is beyond the range exactly where it is above 1000000.5, and a sum from 2 ^ 52 to 2 ^ 53 rounds to a whole number.
 --
 --   far-below, far-above    the two comparisons of `is_far`
---   lands-on                a fraction from 2 ^ (prec - 1) to 2 ^ prec rounds to the nearest whole number
---   sum-whole               the sum with 3 * 2 ^ 51 is a whole number k, of which 3 * 2 ^ 51 is to be taken away
+--   Whole x                 the sum with 3 * 2 ^ 51 is a whole number, and without 3 * 2 ^ 51 it is the nearest to x; `sum-whole`: so it is where x is finite and not far off
 --   sum-cast, sum-less, whole-fits    what the casts of `whole` want of it, and what they give
-use mathlib.Core.Path.{_≡_, sym, ap, _∙_, subst}
+use mathlib.Core.Path.{_≡_, refl, sym, ap, _∙_, subst}
 use mathlib.Core.Bool.{Bool, true, false, cond, false≢true, _&&_}
 use mathlib.Core.List.{[], _∷_}
 use Prim.Native.Nat.{ℕ, suc, _+_, _-_, _*_, _/_, _%_, _^_, _≤_, _<_, compare}
@@ -30,7 +29,7 @@ use mir.Val.{SFits, hbits, toZ, ofZ}
 use Rattle.algebra.proofs.Ring.{var, _⊕_, neg, ring}
 use Rattle.algebra.proofs.SizeLaws.{read-back, sfits-size}
 use Rattle.shots.specs.Sizes.{farthest}
-use Rattle.intake.specs.Nearest.{valueOf, NearestTo, wholeOf}
+use Rattle.intake.specs.Nearest.{isNegative, valueOf, NearestTo, wholeOf}
 use Rattle.intake.specs.Tests.{farOff}
 use Rattle.intake.proofs.Nearness.{Close, closest-close, closest-nearest, nearest-one, nearest-moved, whole-size}
 
@@ -129,7 +128,7 @@ in-ones nan q l p h = h
 in-ones (inf s) q l p h = h
 in-ones (fin s m e) q l p h = (h .0, mul-one (m * up e) ∙ eq-of-mul-eq-mul-right l p (m * up e) (q * down e) (h .1 ∙ mul-right-comm q l (down e)))
 
-pub lands-on : (N c : ℕ) → 0 < c → 2 ^ 52 * c ≤ N → N < 2 ^ 53 * c → round binary64 false N c ≡ ofInt binary64 (pos (closest N c))
+lands-on : (N c : ℕ) → 0 < c → 2 ^ 52 * c ≤ N → N < 2 ^ 53 * c → round binary64 false N c ≡ ofInt binary64 (pos (closest N c))
 unfolding ofInt
 lands-on N c C lo hi =
     whole-unique binary64 (round binary64 false N c) (round binary64 false (closest N c) 1) false (closest N c) (round-fits binary64 false N c) (round-fits binary64 false (closest N c) 1)
@@ -149,19 +148,8 @@ lands-on N c C lo hi =
 
 -- ---- the sum with 3 * 2 ^ 51
 
-abbrev pub base : ℕ
+abbrev base : ℕ
 base = 6755399441055744
-
--- a size that is not beyond the range, on either side of the base
-module _ (N D : ℕ) (P : 0 < D) (h : N * 2 ≤ 2000001 * D) where
-  less : N * 1 < 3 * 2 ^ 51 * D
-  less = omega (arith, P, h)
-
-  pub lands-up : round binary64 false (N * 1 + 3 * 2 ^ 51 * D) (D * 1) ≡ ofInt binary64 (pos (closest (N * 1 + 3 * 2 ^ 51 * D) (D * 1)))
-  lands-up = lands-on (N * 1 + 3 * 2 ^ 51 * D) (D * 1) (omega arith) (omega (arith, h)) (omega (arith, P, h))
-
-  pub lands-down : round binary64 false (3 * 2 ^ 51 * D - N * 1) (D * 1) ≡ ofInt binary64 (pos (closest (3 * 2 ^ 51 * D - N * 1) (D * 1)))
-  lands-down = lands-on (3 * 2 ^ 51 * D - N * 1) (D * 1) (omega arith) (omega (arith, P, h)) (omega (arith, P, h))
 
 -- what is nearest to a number, from what is nearest to its sum with the base
 found : (A : ℤ) (M D : ℕ) (w : ℤ) → 0 < D → pos M ≡ A +ℤ pos base *ℤ pos D → NearestTo A D w → pos (closest M (D * 1)) -ℤ pos base ≡ w
@@ -175,36 +163,43 @@ pub record Whole (x : Float) : Type 0 where
   pub takes : pos whole -ℤ pos base ≡ wholeOf x
   pub low : whole ≤ 2 ^ 53
 
+-- from the exact sum, M / D
+of-sum : (x : Float) (M D : ℕ) → 0 < D → 2 ^ 52 * (D * 1) ≤ M → M < 2 ^ 53 * (D * 1) → add binary64 x (fin false 3 (pos 51)) ≡ round binary64 false M (D * 1)
+    → den x ≡ D → pos M ≡ valueOf x +ℤ pos base *ℤ pos D → Whole x
+unfolding wholeOf valueOf
+of-sum x M D P lo hi e d a =
+    record {
+      whole = closest M (D * 1);
+      sums = e ∙ lands-on M (D * 1) (omega (arith, P)) lo hi;
+      takes = found (valueOf x) M D (wholeOf x) P a (subst (λ (c : ℕ). NearestTo (valueOf x) c (wholeOf x)) d (closest-nearest (isNegative x) (num x) (den x) (den-pos x)));
+      low = most M (D * 1) (2 ^ 53) (omega (arith, P)) hi;
+    }
+
+-- the size N / D is not beyond the range: the sum is above the base, or below it
+module _ (m : ℕ) (e : ℤ) (l : m * up e * 2 ≤ 2000001 * down e) where
+  abbrev N : ℕ
+  N = m * up e
+
+  abbrev D : ℕ
+  D = down e
+
+  taken : pos (3 * 2 ^ 51 * D - N * 1) ≡ negℤ (pos N) +ℤ pos base *ℤ pos D
+  taken =
+      ring (pos (3 * 2 ^ 51 * D - N * 1) ∷ pos N ∷ []) (var 0) (neg (var 1) ⊕ (var 0 ⊕ var 1)) tt
+      ∙ ap (λ (z : ℕ). negℤ (pos N) +ℤ pos z) (let g : 3 * 2 ^ 51 * D - N * 1 + N ≡ base * D = omega (arith, l) in g)
+
+  on-side : (s : Bool) → Whole (fin s m e)
+  unfolding add sum valueOf
+  on-side false = of-sum (fin false m e) (N * 1 + 3 * 2 ^ 51 * D) D (down-pos e) (omega (arith, l)) (omega (arith, l, down-pos e)) refl refl (ap pos (omega arith))
+  on-side true =
+      of-sum (fin true m e) (3 * 2 ^ 51 * D - N * 1) D (down-pos e) (omega (arith, l, down-pos e)) (omega (arith, l, down-pos e))
+      (ap (λ (b : Bool). cond b (round binary64 false (3 * 2 ^ 51 * D - N * 1) (D * 1)) (round binary64 (true && ltb (3 * 2 ^ 51 * D) (N * 1)) (N * 1 - 3 * 2 ^ 51 * D) (D * 1)))
+      (lt-ltb (N * 1) (3 * 2 ^ 51 * D) (omega (arith, l, down-pos e)))) refl taken
+
 pub sum-whole : (x : Float) → finite x ≡ true → farOff x ≡ false → Whole x
-unfolding add sum wholeOf valueOf
 sum-whole nan f h = absurd (false≢true f)
 sum-whole (inf s) f h = absurd (false≢true f)
-sum-whole (fin false m e) f h =
-    let N = m * up e in
-    let D = down e in
-    let l : N * 2 ≤ 2000001 * D = omega (arith, ltb-false (2000001 * 1 * D) (N * 2) (far-is (fin false m e) ∙ h)) in
-    record {
-      whole = closest (N * 1 + 3 * 2 ^ 51 * D) (D * 1);
-      sums = lands-up N D (down-pos e) l;
-      takes = found (pos N) (N * 1 + 3 * 2 ^ 51 * D) D (pos (closest N D)) (down-pos e) (ap pos (omega arith)) (closest-nearest false N D (down-pos e));
-      low = most (N * 1 + 3 * 2 ^ 51 * D) (D * 1) (2 ^ 53) (omega (arith, down-pos e)) (omega (arith, l, down-pos e));
-    }
-sum-whole (fin true m e) f h =
-    let N = m * up e in
-    let D = down e in
-    let l : N * 2 ≤ 2000001 * D = omega (arith, ltb-false (2000001 * 1 * D) (N * 2) (far-is (fin true m e) ∙ h)) in
-    record {
-      whole = closest (3 * 2 ^ 51 * D - N * 1) (D * 1);
-      sums = ap (λ (b : Bool). cond b (round binary64 false (3 * 2 ^ 51 * D - N * 1) (D * 1)) (round binary64 (true && ltb (3 * 2 ^ 51 * D) (N * 1)) (N * 1 - 3 * 2 ^ 51 * D) (D * 1))) (lt-ltb (N * 1) (3 * 2 ^ 51 * D) (less N D (down-pos e) l))
-          ∙ lands-down N D (down-pos e) l;
-      takes = found (negℤ (pos N)) (3 * 2 ^ 51 * D - N * 1) D (negℤ (pos (closest N D))) (down-pos e) (taken N D l) (closest-nearest true N D (down-pos e));
-      low = most (3 * 2 ^ 51 * D - N * 1) (D * 1) (2 ^ 53) (omega (arith, down-pos e)) (omega (arith, l, down-pos e));
-    }
-  where
-    taken : (N D : ℕ) → N * 2 ≤ 2000001 * D → pos (3 * 2 ^ 51 * D - N * 1) ≡ negℤ (pos N) +ℤ pos base *ℤ pos D
-    taken N D l =
-        ring (pos (3 * 2 ^ 51 * D - N * 1) ∷ pos N ∷ []) (var 0) (neg (var 1) ⊕ (var 0 ⊕ var 1)) tt
-        ∙ ap (λ (z : ℕ). negℤ (pos N) +ℤ pos z) (let g : 3 * 2 ^ 51 * D - N * 1 + N ≡ base * D = omega (arith, l) in g)
+sum-whole (fin s m e) f h = on-side m e (omega (arith, ltb-false (2000001 * 1 * down e) (m * up e * 2) (far-is (fin s m e) ∙ h))) s
 
 pub sum-cast : (x : Float) (w : Whole x) → T (inSigned binary64 63 (add binary64 x (fin false 3 (pos 51)))) × (toSigned 63 (add binary64 x (fin false 3 (pos 51))) ≡ pos (w .whole))
 sum-cast x w =

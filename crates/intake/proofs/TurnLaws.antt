@@ -1,7 +1,6 @@
 -- The shots in turn: the number of one shot, and what the rules say of those that are left.
 --
 --   shot-number        the number that refuses a shot is the larger of its two numbers
---   left-cons, left-none      the given shots that are left after i turns
 --   Kept foot l n i    a loop that looks for a refused shot of the first n has come to i; `turn-kept`, `turn-broken`, `turns-end`: it goes on, has found one, has found none
 --   Writes, Rest       one that writes their coordinates has; `writes-none`, `writes-turn`, `writes-end`, `rest-fine`, `rest-on`: it begins, goes on, has written all
 --   turns-numbered     the rules have numbers that are not 0
@@ -75,12 +74,12 @@ shot-fine foot s p q =
 -- ---- in turn
 
 -- the first n of an array, from the one at i on
-pub left-cons : (l : List Shot) (n i : ℕ) (d : Shot) → n ≤ length l → i < n → drop i (take n l) ≡ getD l i d ∷ drop (i + 1) (take n l)
+left-cons : (l : List Shot) (n i : ℕ) (d : Shot) → n ≤ length l → i < n → drop i (take n l) ≡ getD l i d ∷ drop (i + 1) (take n l)
 left-cons l n i d w h =
     drop-cons (take n l) i d (omega (arith, length-take n l))
     ∙ (λ k. getD-take n l i d h k ∷ drop (sym (add-one i) k) (take n l))
 
-pub left-none : (l : List Shot) (n i : ℕ) → n ≤ i → drop i (take n l) ≡ []
+left-none : (l : List Shot) (n i : ℕ) → n ≤ i → drop i (take n l) ≡ []
 left-none l n i h = drop-of-length-le (take n l) {i = i} (omega (arith, length-take n l))
 
 module _ (foot : Foot) (l : List Shot) (n i : ℕ) where

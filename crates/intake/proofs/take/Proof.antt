@@ -34,7 +34,7 @@ counted : (e : tie.Else1) → countRule (e .before .before .args .count) .broken
 counted e = sym (e .before .miscounted .ensures) ∙ e .if1 .left
 
 few : (e : tie.Else1) → e .before .before .args .count ≤ shotsMost
-few e = count-few (e .before .before .args .count) (counted e) .1
+few e = count-few (e .before .before .args .count) (counted e)
 
 wide : (s : tie.Start) → length (s .args .shots) ≡ shotsMost
 wide s = search needs

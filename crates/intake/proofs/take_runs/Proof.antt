@@ -29,7 +29,7 @@ counted : (e : tie.Else1) → countRule (length (e .before .before .before .befo
 counted e = sym (e .before .miscounted .ensures) ∙ e .if1 .left
 
 few : (e : tie.Else1) → length (e .before .before .before .before .args .units .now) ≤ shotsMost
-few e = count-few (length (e .before .before .before .before .args .units .now)) (counted e) .1
+few e = count-few (length (e .before .before .before .before .args .units .now)) (counted e)
 
 mul-if2 : tie.Need-mul-if2
 mul-if2 c = omega (arith, few c)
