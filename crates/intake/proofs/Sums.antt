@@ -2,7 +2,7 @@
 --
 --   far-below, far-above    the two comparisons of `is_far`
 --   Whole x                 the sum with 3 * 2 ^ 51 is a whole number, and without 3 * 2 ^ 51 it is the nearest to x; `sum-whole`: so it is where x is finite and not far off
---   sum-cast, sum-less, whole-fits    what the casts of `whole` want of it, and what they give
+--   sum-cast, left-fits, left-narrow, left-whole    what the casts of `whole` want, and what they leave
 use mathlib.Core.Path.{_≡_, refl, sym, ap, _∙_, subst}
 use mathlib.Core.Bool.{Bool, true, false, cond, false≢true, _&&_}
 use mathlib.Core.List.{[], _∷_}
@@ -24,7 +24,7 @@ use lib.Ieee.Positive.{num, den, den-pos}
 use lib.Ieee.Scale.{finite, grid, overflow, round-val}
 use lib.Ieee.Back.{round-whole, whole-unique, positive-back}
 use lib.Ieee.Casts.{toSigned-in}
-use mir.Syntax.{Width, w64}
+use mir.Syntax.{Width, w32, w64}
 use mir.Val.{SFits, hbits, toZ, ofZ}
 use Rattle.algebra.proofs.Ring.{var, _⊕_, neg, ring}
 use Rattle.algebra.proofs.SizeLaws.{read-back, sfits-size}
@@ -201,16 +201,44 @@ sum-whole nan f h = absurd (false≢true f)
 sum-whole (inf s) f h = absurd (false≢true f)
 sum-whole (fin s m e) f h = on-side m e (omega (arith, ltb-false (2000001 * 1 * down e) (m * up e * 2) (far-is (fin s m e) ∙ h))) s
 
-pub sum-cast : (x : Float) (w : Whole x) → T (inSigned binary64 63 (add binary64 x (fin false 3 (pos 51)))) × (toSigned 63 (add binary64 x (fin false 3 (pos 51))) ≡ pos (w .whole))
-sum-cast x w =
-    subst (λ (y : Float). T (inSigned binary64 63 y) × (toSigned 63 y ≡ pos (w .whole))) (sym (w .sums))
-    (positive-back binary64 63 (w .whole) (unfold inFloat in le→leb (w .whole) (2 ^ 53) (w .low)) (let b = w .low in omega arith))
+-- ---- the casts of `whole`
 
--- what is held of it in 64 bits, and the base taken away
-pub sum-less : (x : Float) (w : Whole x) → toZ w64 (ofZ w64 (toSigned 63 (add binary64 x (fin false 3 (pos 51))))) -ℤ toZ w64 base ≡ wholeOf x
-sum-less x w = ap (λ (z : ℤ). z -ℤ toZ w64 base) (read-back w64 _ (toSigned-in 63 (add binary64 x (fin false 3 (pos 51)))) (sum-cast x w .1)) ∙ w .takes
+module _ (x : Float) (w : Whole x) where
+  -- the sum, what 64 bits hold of it, and that without the base
+  abbrev summed : Float
+  summed = add binary64 x (fin false 3 (pos 51))
 
--- what is not far off fits both widths
-pub whole-fits : (b : Width) (x : Float) → farthest < 2 ^ hbits b → farOff x ≡ false → SFits b (wholeOf x)
-unfolding farOff
-whole-fits b x l h = sfits-size b (wholeOf x) (let k = ltb-false farthest (natAbs (wholeOf x)) h in omega arith)
+  abbrev held : ℤ
+  held = toZ w64 (ofZ w64 (toSigned 63 summed))
+
+  abbrev left : ℤ
+  left = held -ℤ toZ w64 base
+
+  back : T (inSigned binary64 63 summed) × (toSigned 63 summed ≡ pos (w .whole))
+  back =
+      subst (λ (y : Float). T (inSigned binary64 63 y) × (toSigned 63 y ≡ pos (w .whole))) (sym (w .sums))
+      (positive-back binary64 63 (w .whole) (unfold inFloat in le→leb (w .whole) (2 ^ 53) (w .low)) (let b = w .low in omega arith))
+
+  less : left ≡ wholeOf x
+  less = ap (λ (z : ℤ). z -ℤ toZ w64 base) (read-back w64 _ (toSigned-in 63 summed) (back .1)) ∙ w .takes
+
+  pub sum-cast : T (inSigned binary64 63 summed)
+  sum-cast = back .0
+
+  -- what is not far off fits both widths
+  module _ (h : farOff x ≡ false) where
+    fits : (b : Width) → farthest < 2 ^ hbits b → SFits b (wholeOf x)
+    unfolding farOff
+    fits b l = sfits-size b (wholeOf x) (let k = ltb-false farthest (natAbs (wholeOf x)) h in omega arith)
+
+    pub left-fits : SFits w64 left
+    left-fits = subst (SFits w64) (sym less) (fits w64 (lit< tt))
+
+    kept : toZ w64 (ofZ w64 left) ≡ wholeOf x
+    kept = read-back w64 left (left-fits .sfits) less
+
+    pub left-narrow : SFits w32 (toZ w64 (ofZ w64 left))
+    left-narrow = subst (SFits w32) (sym kept) (fits w32 (lit< tt))
+
+    pub left-whole : toZ w32 (ofZ w32 (toZ w64 (ofZ w64 left))) ≡ wholeOf x
+    left-whole = read-back w32 (toZ w64 (ofZ w64 left)) (left-narrow .sfits) kept
