@@ -1,6 +1,7 @@
 -- What is finite: only a NaN differs from itself, no rounding gives a NaN, and an operation's answer is finite only where its first operand is.
 --
 --   less-itself      x - x equals itself exactly where x is finite
+--   div-first        a quotient is finite only where its first operand is
 --   last-tells       of a shot's east, its north and the answers of the operations none is not finite exactly where the last two are finite
 use mathlib.Core.Path.{_≡_, refl, sym, ap, _∙_, subst}
 use mathlib.Core.Bool.{Bool, true, false, not, cond, Bool·beq, _&&_, _||_}
@@ -76,7 +77,7 @@ mul-first f (inf s) (inf t) h = h
 mul-first f (inf s) (fin t n d) h = none (eqb n 0) nan (inf (unlike s t)) h (λ z. z) (λ z. z)
 mul-first f (fin s m e) y h = tt
 
-div-first : (f : Format) (x y : Float) → T (finite (div f x y)) → T (finite x)
+pub div-first : (f : Format) (x y : Float) → T (finite (div f x y)) → T (finite x)
 unfolding div
 div-first f nan y h = h
 div-first f (inf s) nan h = h

@@ -1,6 +1,7 @@
 pub mod Nearness
 pub mod Sums
 pub mod Finiteness
+pub mod Rounded
 pub mod TurnLaws
 pub mod CallChains
 pub mod Promises

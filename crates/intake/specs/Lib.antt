@@ -1,4 +1,5 @@
 pub mod Nearest
+pub mod Once
 pub mod Scaling
 pub mod Tests
 pub mod Runs
