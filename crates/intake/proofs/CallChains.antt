@@ -25,9 +25,9 @@ use Rattle.algebra.proofs.WritingLaws.{wrote-taken}
 use Rattle.shots.specs.Sizes.{shotsLeast, shotsMost, coordinatesMost}
 use Rattle.shots.specs.Tests.{shapeRules, refusalOf}
 use Rattle.shots.specs.Calls.{PatchRead, patchGiven}
-use Rattle.shots.proofs.Decided.{far-decided}
+use Rattle.shots.proofs.Decided.{count-test, far-decided}
 use Rattle.shots.proofs.Chains.{shots-numbered}
-use Rattle.shots.proofs.HandedLaws.{handed, handed-done, count-test}
+use Rattle.shots.proofs.HandedLaws.{handed, handed-done}
 use Rattle.intake.specs.Scaling.{surveyFoot, millimetresOf, atOrigin}
 use Rattle.intake.specs.Tests.{turnRules, countRule, intakeRules}
 use Rattle.intake.specs.Runs.{shotIn, shotsIn, runsRule}

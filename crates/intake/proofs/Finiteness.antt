@@ -1,6 +1,7 @@
 -- What is finite: only a NaN differs from itself, no rounding gives a NaN, and an operation's answer is finite only where its first operand is.
 --
 --   less-itself      x - x equals itself exactly where x is finite
+--   neither          a NaN or an infinity is not finite
 --   div-first        a quotient is finite only where its first operand is
 --   last-tells       of a shot's east, its north and the answers of the operations none is not finite exactly where the last two are finite
 use mathlib.Core.Path.{_≡_, refl, sym, ap, _∙_, subst}
@@ -65,16 +66,17 @@ less-itself f (fin s m e) = is-true _ (self (sum f s (m * up e * down e) (not s)
 
 -- ---- finite only where the first operand is
 
-none : (b : Bool) (x y : Float) → T (finite (cond b x y)) → (T (finite x) → ⊥) → (T (finite y) → ⊥) → ⊥
-none true x y h p q = p h
-none false x y h p q = q h
+-- a NaN or an infinity is not
+pub neither : {X : Type 0} (b s : Bool) → T (finite (cond b nan (inf s))) → X
+neither true s h = absurd h
+neither false s h = absurd h
 
 mul-first : (f : Format) (x y : Float) → T (finite (mul f x y)) → T (finite x)
 unfolding mul
 mul-first f nan y h = h
 mul-first f (inf s) nan h = h
 mul-first f (inf s) (inf t) h = h
-mul-first f (inf s) (fin t n d) h = none (eqb n 0) nan (inf (unlike s t)) h (λ z. z) (λ z. z)
+mul-first f (inf s) (fin t n d) h = neither (eqb n 0) (unlike s t) h
 mul-first f (fin s m e) y h = tt
 
 pub div-first : (f : Format) (x y : Float) → T (finite (div f x y)) → T (finite x)

@@ -1,7 +1,7 @@
 -- What the two calls promise: each gives a refusal number exactly when that number's line is the first that holds, the number of shots exactly when no line holds, and no other answer is permitted;
 -- and the coordinates handed out are the nearest whole numbers of the scaled east and north.
 --
---   range-decided, finite-decided, turns-decided, rules-decided, count-decided, equal-decided     the tests decide the lines, for every pair of factors
+--   range-decided, finite-decided, turns-decided, rules-decided, few-decided, equal-decided     the tests decide the lines, for every pair of factors
 --   take-refuses, take-gives, take-runs-refuses, take-runs-gives
 --   take-coordinates, take-refused, take-runs-coordinates, take-runs-refused    the array beside the answer
 --   take-accepted, take-runs-accepted             what is handed out is an accepted patch
@@ -78,11 +78,11 @@ module _ (foot : Foot) where
   rules-decided c r l e d =
       (e, d, decides-append (turnRules foot l) (shapeRules (millimetresOf foot l)) (turnLines foot l) (shapeLines (millimetresOf foot l)) (turns-decided l) (shots-decided (millimetresOf foot l) .2 .2))
 
-pub count-decided : (n : ℕ) → Reflects (FewOrMany n) (countRule n .broken)
-count-decided n = reflects-or (reflects-ltb n shotsLeast) (reflects-ltb shotsMost n)
+pub few-decided : (n : ℕ) → Reflects (FewOrMany n) (countRule n .broken)
+few-decided n = reflects-or (reflects-ltb n shotsLeast) (reflects-ltb shotsMost n)
 
 pub equal-decided : (u : List ℕ) (v : List Float) → Reflects (FewOrMany (length u) ⊎ Unequal u v) (runsRule u v .broken)
-equal-decided u v = reflects-or (count-decided (length u)) (reflects-not (reflects-eqb (length v) (2 * length u)))
+equal-decided u v = reflects-or (few-decided (length u)) (reflects-not (reflects-eqb (length v) (2 * length u)))
 
 -- ---- what is handed out, for every pair of factors: n shots l, with a rule r that keeps their number in range
 
@@ -127,7 +127,7 @@ module _ (foot : Foot) (r : Rule) (l : List Shot) (n : ℕ) (many : length l ≡
 
 module _ (l : List Shot) (n : ℕ) where
   decided : Decides (intakeRules surveyFoot (countRule n) (take n l)) (takeLines l n)
-  decided = rules-decided surveyFoot (FewOrMany n) (countRule n) (take n l) refl (count-decided n)
+  decided = rules-decided surveyFoot (FewOrMany n) (countRule n) (take n l) refl (few-decided n)
 
   pub take-refuses : (k : ℕ) → (takeOf l n .answer ≡ refuses k) ↔ First k (takeLines l n)
   unfolding takeOf

@@ -9,13 +9,13 @@
 --   millimetres-length, millimetres-at     how many coordinates there are, and those of shot i
 --   turns-at           the rules of shot i are kept where all are
 use mathlib.Core.Path.{_≡_, refl, sym, ap, _∙_, subst}
-use mathlib.Core.Bool.{Bool, true, false, not, cond, _&&_, _||_, true≢false}
+use mathlib.Core.Bool.{Bool, true, false, not, cond, _&&_, _||_}
 use mathlib.Core.List.{List, [], _∷_}
 use Prim.Native.Nat.{ℕ, zero, suc, _+_, _*_, _≤_, _<_}
 use native.Mathlib.Omega.{arith}
 use native.Mathlib.Nat.{not-suc-le-zero}
 use native.Mathlib.Numerals.{add-one}
-use borrow.Author.Tests.{ltb-false}
+use borrow.Author.Tests.{ltb-false, not-false}
 use lib.Dec.{ltb}
 use lib.ListN.{length, getD, take, drop, set, length-take, drop-of-length-le}
 use lib.Seq.{drop-cons, getD-take}
@@ -24,7 +24,7 @@ use lib.Ieee.Scale.{finite}
 use Rattle.algebra.specs.Answer.{Rule, refusal, Numbered}
 use Rattle.algebra.specs.Writing.{wrote}
 use Rattle.algebra.proofs.AnswerLaws.{Unbroken, refusal-stops, refusal-goes}
-use Rattle.algebra.proofs.LoopLaws.{or-parts}
+use Rattle.algebra.proofs.LoopLaws.{or-parts, and-parts}
 use Rattle.shots.specs.Sizes.{farthest}
 use Rattle.intake.specs.Nearest.{wholeOf}
 use Rattle.intake.specs.Scaling.{scaledOf, millimetresOf, atOrigin}
@@ -56,18 +56,13 @@ shot-number foot s =
     ap (λ (b : Bool). cond b 16 (cond (farOff e || farOff n) 2 0)) (last-tells foot s)
     ∙ larger (finite e) (finite n) (farOff e) (farOff n)
 
-fine : (a b : Bool) → not (a && b) ≡ false → (a ≡ true) × (b ≡ true)
-fine true true e = (refl, refl)
-fine true false e = absurd (true≢false e)
-fine false b e = absurd (true≢false e)
-
 -- the scaled numbers of a shot that is not refused: finite, and not far off
 abbrev pub Fine : Scaled → Type 0
 Fine z = ((finite (z .east) ≡ true) × (farOff (z .east) ≡ false)) × ((finite (z .north) ≡ true) × (farOff (z .north) ≡ false))
 
 pub shot-fine : (foot : Foot) (s : Shot) → finiteRule foot s .broken ≡ false → rangeRule foot s .broken ≡ false → Fine (scaledOf foot s)
 shot-fine foot s p q =
-    let (e, n) = fine (finite (scaledOf foot s .east)) (finite (scaledOf foot s .north)) (sym (last-tells foot s) ∙ p) in
+    let (e, n) = and-parts (finite (scaledOf foot s .east)) (finite (scaledOf foot s .north)) (not-false _ (sym (last-tells foot s) ∙ p)) in
     let (f, g) = or-parts (farOff (scaledOf foot s .east)) (farOff (scaledOf foot s .north)) q in
     ((e, f), (n, g))
 

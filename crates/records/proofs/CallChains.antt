@@ -23,7 +23,8 @@ use Rattle.shots.specs.Sizes.{shotsMost, coordinatesMost}
 use Rattle.shots.specs.Patch.{countOf}
 use Rattle.shots.specs.Tests.{placeRules, refusalOf}
 use Rattle.shots.proofs.Chains.{shots-numbered, shots-passed}
-use Rattle.shots.proofs.HandedLaws.{handed, handed-stops, handed-done, count-test}
+use Rattle.shots.proofs.Decided.{count-test}
+use Rattle.shots.proofs.HandedLaws.{handed, handed-stops, handed-done}
 use Rattle.lists.specs.Tests.{listRules}
 use Rattle.lists.specs.Calls.{testOf}
 use Rattle.records.specs.Reading.{patchFrame, coordinatesOf, patchRules, surfaceFrame, tripleRule, listedOf}

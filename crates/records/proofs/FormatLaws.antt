@@ -42,7 +42,7 @@ use Rattle.algebra.proofs.WritingLaws.{wrote-append}
 use Rattle.shots.specs.Sizes.{shotsLeast, shotsMost}
 use Rattle.shots.specs.Patch.{countOf}
 use Rattle.shots.specs.Tests.{shotRules}
-use Rattle.shots.proofs.HandedLaws.{count-test}
+use Rattle.shots.proofs.Decided.{count-test}
 use Rattle.triples.specs.Sizes.{triplesMost}
 use Rattle.triples.specs.Ranks.{tripleCount, tripleAt, rankOf}
 use Rattle.triples.specs.Sets.{sizeOf}

@@ -21,7 +21,7 @@ use Rattle.shots.specs.Sizes.{shotsLeast, shotsMost, farthest}
 use Rattle.shots.specs.Patch.{countOf}
 use Rattle.shots.specs.Tests.{placeRules, shotRules, refusalOf, Near}
 use Rattle.shots.proofs.Patch.{patch-near, patch-few, patch-even}
-use Rattle.shots.proofs.HandedLaws.{count-test}
+use Rattle.shots.proofs.Decided.{count-test}
 use Rattle.shots.proofs.Chains.{shots-numbered}
 use Rattle.records.specs.Sizes.{version}
 use Rattle.records.specs.Fields.{Bytes, bytesOf, fieldOf, codeOf, signedOf}

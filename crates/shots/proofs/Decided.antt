@@ -1,14 +1,18 @@
 -- The tests of a run of coordinates decide the lines of document 01's table of refusals, for every run.
 --
 --   count-decided    1: `badCount` decides `BadCount`
+--   count-test       it, where there are two coordinates to each of n shots
 --   far-decided      2: `someFar` decides `Beyond`
 --   same-decided     3: `someSame` decides `Repeated`
 --   bent-decided     `someBent` decides that some three shots turn
 --   line-decided     4: no three shots turn, which decides `OneLine`
-use mathlib.Core.Path.{_≡_, ap}
-use mathlib.Core.Bool.{not}
+use mathlib.Core.Path.{_≡_, refl, ap}
+use mathlib.Core.Bool.{not, _||_}
 use mathlib.Core.List.{List}
-use Prim.Native.Nat.{ℕ, _<_, _%_}
+use Prim.Native.Nat.{ℕ, _*_, _/_, _%_, _<_}
+use native.Mathlib.Omega.{arith}
+use borrow.Author.Tests.{ne-eqb}
+use lib.Dec.{ltb}
 use lib.ListN.{getD, length}
 use lib.IntN.{ℤ, pos, natAbs}
 use Rattle.algebra.specs.Answer.{Reflects}
@@ -23,6 +27,13 @@ use Rattle.shots.specs.Coordinates.{xOf, yOf, pointOf, areaOf}
 use Rattle.shots.specs.Patch.{countOf, orientOf}
 use Rattle.shots.specs.Tests.{badCount, farAt, someFar, sameAt, sameBefore, someSame, bentAt, bentOf, bentBefore, someBent}
 use Rattle.shots.specs.Lines.{BadCount, Beyond, Repeated, OneLine}
+
+pub count-test : (l : List ℤ) (n : ℕ) → length l ≡ 2 * n → badCount l ≡ (ltb n shotsLeast || ltb shotsMost n)
+unfolding badCount
+count-test l n e = rw (ne-eqb (length l % 2) 1 (λ z. omega arith), half) refl
+  where
+    half : length l / 2 ≡ n
+    half = omega arith
 
 module _ (l : List ℤ) where
   pub count-decided : Reflects (BadCount l) (badCount l)

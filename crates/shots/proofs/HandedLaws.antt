@@ -7,23 +7,18 @@
 --   handed-coordinates, handed-refused     the array beside the answer
 --   handed-front      as many coordinates as the answer says stand in front
 --   patch-one         two answers with one reading are one answer
---   count-test        the test of the number of shots, where there are 2 coordinates to each
 use mathlib.Core.Path.{_≡_, refl, sym, _∙_, ap}
 use mathlib.Core.Logic.{_↔_}
-use mathlib.Core.Bool.{_||_}
 use mathlib.Core.List.{List, _++_}
-use Prim.Native.Nat.{ℕ, _*_, _/_, _%_, _≤_}
+use Prim.Native.Nat.{ℕ, _*_, _≤_}
 use native.Mathlib.Omega.{arith}
-use borrow.Author.Tests.{ne-eqb}
-use lib.Dec.{ltb}
 use lib.ListN.{length, take, replicate}
 use lib.IntN.{ℤ, pos}
 use Rattle.algebra.specs.Answer.{Answer, gives, refuses, Rule, chain, refusal, Line, First, Clear, Decides}
 use Rattle.algebra.specs.Writing.{wrote}
 use Rattle.algebra.proofs.AnswerLaws.{chain-refuses, chain-gives, chain-stop, one-answer, Unbroken, unbroken-gives, gives-unbroken}
 use Rattle.algebra.proofs.WritingLaws.{wrote-taken}
-use Rattle.shots.specs.Sizes.{shotsLeast, shotsMost, coordinatesMost}
-use Rattle.shots.specs.Tests.{badCount}
+use Rattle.shots.specs.Sizes.{shotsMost, coordinatesMost}
 use Rattle.shots.specs.Calls.{readPatched, PatchRead, readPatch, coordinatesWith, patchGiven}
 use Rattle.shots.specs.declared.Patched.{Patched}
 use Rattle.shots.specs.declared.Patched.the-variants as P
@@ -80,12 +75,3 @@ patch-back r = λ t. record { answer = patched-back (r .answer) t; coordinates =
 
 pub patch-one : {x : PatchRead} {r r′ : Handed} → readPatch r ≡ x → readPatch r′ ≡ x → r ≡ r′
 patch-one = one-answer readPatch patchAs patch-back
-
--- ---- the number of shots
-
-pub count-test : (l : List ℤ) (n : ℕ) → length l ≡ 2 * n → badCount l ≡ (ltb n shotsLeast || ltb shotsMost n)
-unfolding badCount
-count-test l n e = rw (ne-eqb (length l % 2) 1 (λ z. omega arith), half) refl
-  where
-    half : length l / 2 ≡ n
-    half = omega arith
