@@ -1,6 +1,6 @@
 /*
- * calls: every call of patch.h, with document 01's cases, the areas that E6 asks for, E1's patch, E5's chains and E2's shots of a controller. It prints
- * each case that does not answer as it should, then how many did.
+ * calls: every call of patch.h, with document 01's cases, the areas that E6 asks for, E1's patch, E5's chains, E2's shots of a controller and E13's two
+ * feet. It prints each case that does not answer as it should, then how many did.
  * What a call lends it finds unchanged where it is refused.
  */
 #include "patch.h"
@@ -86,11 +86,11 @@ static void places(void)
 static int32_t taken[PATCH_COORDINATES_MOST + 1];
 static size_t taken_count;
 
-static uint8_t take(const uint8_t *units, size_t units_length, const double *values, size_t values_length)
+static uint8_t take(size_t edition, const uint8_t *units, size_t units_length, const double *values, size_t values_length)
 {
     memset(taken, 0x11, sizeof taken);
     taken_count = 99;
-    return patch_take_runs(units, units_length, values, values_length, taken, &taken_count);
+    return patch_take_runs(edition, units, units_length, values, values_length, taken, &taken_count);
 }
 
 /* the call gave these coordinates, 0 past them, and nothing behind */
@@ -110,55 +110,98 @@ static int taken_stays(void)
     return taken_count == 99 && same > PATCH_COORDINATES_MOST;
 }
 
+enum { METRES = 0, FEET = 1 };
+enum { SURVEY = PATCH_SURVEY_FOOT, INTERNATIONAL = PATCH_INTERNATIONAL_FOOT };
+
 /* one shot of this unit, in front of two others in metres */
-static uint8_t take_first(uint8_t unit, double east, double north)
+static uint8_t take_first(size_t edition, uint8_t unit, double east, double north)
 {
-    const uint8_t units[] = {unit, 0, 0};
+    const uint8_t units[] = {unit, METRES, METRES};
     const double values[] = {east, north, 500, 500, 500, -500};
-    return take(units, 3, values, 6);
+    return take(edition, units, 3, values, 6);
 }
 
 /* it becomes this place */
-static int becomes(uint8_t unit, double east, double north, int32_t x, int32_t y)
+static int becomes(size_t edition, uint8_t unit, double east, double north, int32_t x, int32_t y)
 {
     const int32_t coordinates[] = {x, y, 500000, 500000, 500000, -500000};
-    return take_first(unit, east, north) == 0 && took(coordinates, 3);
+    return take_first(edition, unit, east, north) == 0 && took(coordinates, 3);
 }
 
 /* it is refused so, and nothing is written */
-static int first_refused(uint8_t unit, double east, double north, uint8_t refusal)
+static int first_refused(size_t edition, uint8_t unit, double east, double north, uint8_t refusal)
 {
-    return take_first(unit, east, north) == refusal && taken_stays();
+    return take_first(edition, unit, east, north) == refusal && taken_stays();
 }
 
-enum { METRES = 0, FEET = 1 };
+/* metres do not depend on the edition */
+static int metres_become(double east, double north, int32_t x, int32_t y)
+{
+    return becomes(SURVEY, METRES, east, north, x, y) && becomes(INTERNATIONAL, METRES, east, north, x, y);
+}
+
+/* it is refused so in both editions */
+static int always_refused(uint8_t unit, double east, double north, uint8_t refusal)
+{
+    return first_refused(SURVEY, unit, east, north, refusal) && first_refused(INTERNATIONAL, unit, east, north, refusal);
+}
 
 static void roundings(void)
 {
-    IS(becomes(METRES, 1.5, -2.25, 1500, -2250));
-    IS(becomes(METRES, 0, -0.0, 0, 0));
-    IS(becomes(METRES, -0.0004, 5e-324, 0, 0));
+    IS(metres_become(1.5, -2.25, 1500, -2250));
+    IS(metres_become(0, -0.0, 0, 0));
+    IS(metres_become(-0.0004, 5e-324, 0, 0));
     /* 0.0625 m is 62.5 mm */
-    IS(becomes(METRES, 0.0625, 0.1875, 62, 188));
-    IS(becomes(METRES, -0.0625, -0.1875, -62, -188));
+    IS(metres_become(0.0625, 0.1875, 62, 188));
+    IS(metres_become(-0.0625, -0.1875, -62, -188));
     /* the double of 0.0025 is more than it, but times 1000 the nearest double is 2.5 */
-    IS(becomes(METRES, 0.0025, -0.0025, 2, -2));
-    IS(becomes(METRES, 0.0005, 0.0015, 0, 2));
+    IS(metres_become(0.0025, -0.0025, 2, -2));
+    IS(metres_become(0.0005, 0.0015, 0, 2));
     /* divided by 0.001 these would be less than a half */
-    IS(becomes(METRES, 0.0215, 0.0355, 22, 36));
-    IS(becomes(METRES, 0.0624999, 0.0625001, 62, 63));
+    IS(metres_become(0.0215, 0.0355, 22, 36));
+    IS(metres_become(0.0624999, 0.0625001, 62, 63));
+    IS(metres_become(1000, -1000, 1000000, -1000000));
+    IS(metres_become(1000.0005, -1000.0005, 1000000, -1000000));
+}
+
+static void survey_feet(void)
+{
     /* 3937 feet are 1,200 m, and 3937 / 256 feet 4,687.5 mm */
-    IS(becomes(FEET, 984.25, -492.125, 300000, -150000));
-    IS(becomes(FEET, 15.37890625, 46.13671875, 4688, 14062));
-    IS(becomes(FEET, -15.37890625, -46.13671875, -4688, -14062));
-    IS(becomes(FEET, 1, -0.0, 305, 0));
+    IS(becomes(SURVEY, FEET, 984.25, -492.125, 300000, -150000));
+    IS(becomes(SURVEY, FEET, 15.37890625, 46.13671875, 4688, 14062));
+    IS(becomes(SURVEY, FEET, -15.37890625, -46.13671875, -4688, -14062));
+    IS(becomes(SURVEY, FEET, 1, -0.0, 305, 0));
+    IS(becomes(SURVEY, FEET, 3000, -3000, 914402, -914402));
     /* the operations round to 88.5; one factor, or none of the roundings, would make 89 of it */
-    IS(becomes(FEET, 0.29035375, -0.29035375, 88, -88));
-    IS(becomes(2, 984.25, 1, 300000, 305));
-    IS(becomes(255, 984.25, 1, 300000, 305));
-    IS(becomes(METRES, 1000, -1000, 1000000, -1000000));
-    IS(becomes(METRES, 1000.0005, -1000.0005, 1000000, -1000000));
-    IS(becomes(FEET, 3280.833333, -3280.833333, 1000000, -1000000));
+    IS(becomes(SURVEY, FEET, 0.29035375, -0.29035375, 88, -88));
+    IS(becomes(SURVEY, 2, 984.25, 1, 300000, 305));
+    IS(becomes(SURVEY, 255, 984.25, 1, 300000, 305));
+    IS(becomes(SURVEY, FEET, 3280.833333, -3280.833333, 1000000, -1000000));
+    IS(first_refused(SURVEY, FEET, 3280.84, 0, PATCH_RANGE));
+    IS(first_refused(SURVEY, FEET, 1e302, 0, PATCH_RANGE));
+    IS(first_refused(SURVEY, FEET, 2e302, 0, PATCH_NOT_FINITE)); /* though divided by 3937 it would be finite */
+    IS(first_refused(SURVEY, FEET, 0, -1e304, PATCH_NOT_FINITE));
+}
+
+static void international_feet(void)
+{
+    /* 0.625 feet are 190.5 mm */
+    IS(becomes(INTERNATIONAL, FEET, 0.625, 1.875, 190, 572));
+    IS(becomes(INTERNATIONAL, FEET, -0.625, -1.875, -190, -572));
+    IS(becomes(INTERNATIONAL, FEET, 1, -0.0, 305, 0));
+    IS(becomes(INTERNATIONAL, FEET, 3000, -3000, 914400, -914400));
+    IS(becomes(INTERNATIONAL, FEET, 984.25, -492.125, 299999, -150000));
+    IS(becomes(INTERNATIONAL, FEET, -0.0004, 5e-324, 0, 0));
+    /* the operations round to 112.5; one factor, the division first, or none of the roundings would make 113 of it */
+    IS(becomes(INTERNATIONAL, FEET, 0.3690944881889764, -0.3690944881889764, 112, -112));
+    IS(becomes(INTERNATIONAL, 2, 3000, 0.625, 914400, 190));
+    IS(becomes(INTERNATIONAL, 255, 3000, 0.625, 914400, 190));
+    /* 3280.84 feet are 1,000,000.032 mm */
+    IS(becomes(INTERNATIONAL, FEET, 3280.84, -3280.84, 1000000, -1000000));
+    IS(first_refused(INTERNATIONAL, FEET, 3280.842, 0, PATCH_RANGE));
+    IS(first_refused(INTERNATIONAL, FEET, 2e302, 0, PATCH_RANGE));
+    IS(first_refused(INTERNATIONAL, FEET, 0, -1e304, PATCH_RANGE));
+    IS(first_refused(INTERNATIONAL, FEET, 6e304, 0, PATCH_NOT_FINITE)); /* though divided by 10 it would be finite */
 }
 
 static void no_places(void)
@@ -166,52 +209,83 @@ static void no_places(void)
     static const uint64_t signalling = 0x7ff0000000000001;
     double worst;
     memcpy(&worst, &signalling, sizeof worst);
-    IS(first_refused(METRES, 1000.0006, 0, PATCH_RANGE));
-    IS(first_refused(METRES, 0, -1000.001, PATCH_RANGE));
-    IS(first_refused(FEET, 3280.84, 0, PATCH_RANGE));
-    IS(first_refused(METRES, 4294967.296, 0, PATCH_RANGE)); /* 2^32 mm */
-    IS(first_refused(METRES, 0, 18446744073709551.616, PATCH_RANGE)); /* 2^64 mm */
-    IS(first_refused(METRES, 1e303, 0, PATCH_RANGE));
-    IS(first_refused(METRES, 0, -1e306, PATCH_NOT_FINITE));
-    IS(first_refused(FEET, 1e302, 0, PATCH_RANGE));
-    IS(first_refused(FEET, 2e302, 0, PATCH_NOT_FINITE)); /* though divided by 3937 it would be finite */
-    IS(first_refused(METRES, NAN, 0, PATCH_NOT_FINITE));
-    IS(first_refused(FEET, 0, -NAN, PATCH_NOT_FINITE));
-    IS(first_refused(METRES, worst, 0, PATCH_NOT_FINITE));
-    IS(first_refused(METRES, INFINITY, 0, PATCH_NOT_FINITE));
-    IS(first_refused(FEET, 0, -INFINITY, PATCH_NOT_FINITE));
-    IS(first_refused(METRES, 2000, NAN, PATCH_NOT_FINITE));
-    IS(first_refused(METRES, NAN, 2000, PATCH_NOT_FINITE));
-    IS(first_refused(METRES, 500.0004, 500, PATCH_EQUAL));
-    IS(first_refused(METRES, 500, 499.9995, PATCH_EQUAL));
-    IS(first_refused(METRES, 500, 0, PATCH_LINE));
+    IS(always_refused(METRES, 1000.0006, 0, PATCH_RANGE));
+    IS(always_refused(METRES, 0, -1000.001, PATCH_RANGE));
+    IS(always_refused(METRES, 4294967.296, 0, PATCH_RANGE)); /* 2^32 mm */
+    IS(always_refused(METRES, 0, 18446744073709551.616, PATCH_RANGE)); /* 2^64 mm */
+    IS(always_refused(METRES, 1e303, 0, PATCH_RANGE));
+    IS(always_refused(METRES, 0, -1e306, PATCH_NOT_FINITE));
+    IS(always_refused(METRES, NAN, 0, PATCH_NOT_FINITE));
+    IS(always_refused(FEET, 0, -NAN, PATCH_NOT_FINITE));
+    IS(always_refused(METRES, worst, 0, PATCH_NOT_FINITE));
+    IS(always_refused(FEET, worst, 0, PATCH_NOT_FINITE));
+    IS(always_refused(METRES, INFINITY, 0, PATCH_NOT_FINITE));
+    IS(always_refused(FEET, 0, -INFINITY, PATCH_NOT_FINITE));
+    IS(always_refused(METRES, 2000, NAN, PATCH_NOT_FINITE));
+    IS(always_refused(METRES, NAN, 2000, PATCH_NOT_FINITE));
+    IS(always_refused(METRES, 500.0004, 500, PATCH_EQUAL));
+    IS(always_refused(METRES, 500, 499.9995, PATCH_EQUAL));
+    IS(always_refused(METRES, 500, 0, PATCH_LINE));
 }
 
-static void controllers(void)
+/* by the US survey foot and by the international one, 984.25 feet are 300 m and 299,999.4 mm, 1250 feet 381,000.762 mm and 381 m */
+static const uint8_t turns[11] = {METRES, FEET, METRES, FEET}, metres[11];
+static const double mixed[] = {1, 2, 984.25, 0, -1, 0.5, 0, -984.25};
+static const double far_first[] = {2000, 0, NAN, 0, 0, 0}, far_last[] = {0, 0, NAN, 0, 2000, 0}, alike[] = {300, 0, 984.25, 0, 300, INFINITY};
+static const double straight[] = {0, 0, 984.25, 984.25, -1, -1, 492.125, 492.125};
+static const double same_then[] = {300, 0, 984.25, 0, 0, 1}, same_now[] = {381, 0, 1250, 0, 0, 1};
+static const double steep[22] = {0, 0, 1, 1, 2, 4, 3, 9, 4, 16, 5, 25, 6, 36, 7, 49, 8, 64, 9, 81, 10, 100};
+
+/* by either foot; these are the places of the mixed shots */
+static void controllers(size_t edition, const int32_t *places)
 {
-    static const uint8_t units[11] = {METRES, FEET, METRES, FEET};
-    static const double mixed[] = {1, 2, 984.25, 0, -1, 0.5, 0, -984.25};
-    static const int32_t places[] = {1000, 2000, 300000, 0, -1000, 500, 0, -300000};
-    static const double far_first[] = {2000, 0, NAN, 0, 0, 0}, far_last[] = {0, 0, NAN, 0, 2000, 0}, alike[] = {300, 0, 984.25, 0, 300, INFINITY};
-    static const double same[] = {300, 0, 984.25, 0, 0, 0}, straight[] = {0, 0, 984.25, 984.25, -1, -1, 492.125, 492.125};
-    static const double bowl[22] = {0, 0, 1, 1, 2, 4, 3, 9, 4, 16, 5, 25, 6, 36, 7, 49, 8, 64, 9, 81, 10, 100};
-    static const uint8_t metres[11];
-    IS(take(units, 4, mixed, 8) == 0 && took(places, 4));
-    IS(take(units, 3, mixed, 6) == 0 && took(places, 3));
-    IS(take(metres, 10, bowl, 20) == 0 && taken_count == 10 && taken[18] == 9000 && taken[19] == 81000 && taken[20] == 0x11111111);
-    IS(take(metres, 11, bowl, 22) == PATCH_COUNT && taken_stays());
-    IS(take(units, 2, mixed, 4) == PATCH_COUNT && taken_stays());
-    IS(take(units, 0, mixed, 0) == PATCH_COUNT && taken_stays());
-    IS(take(units, 3, mixed, 5) == PATCH_COUNT && taken_stays());
-    IS(take(units, 3, mixed, 8) == PATCH_COUNT && taken_stays());
-    IS(take(units, 4, mixed, 6) == PATCH_COUNT && taken_stays());
-    IS(take(metres, 4, far_first, 6) == PATCH_COUNT && taken_stays());
+    IS(take(edition, turns, 4, mixed, 8) == 0 && took(places, 4));
+    IS(take(edition, turns, 3, mixed, 6) == 0 && took(places, 3));
+    IS(take(edition, metres, 10, steep, 20) == 0 && taken_count == 10 && taken[18] == 9000 && taken[19] == 81000 && taken[20] == 0x11111111);
+    IS(take(edition, metres, 11, steep, 22) == PATCH_COUNT && taken_stays());
+    IS(take(edition, turns, 2, mixed, 4) == PATCH_COUNT && taken_stays());
+    IS(take(edition, turns, 0, mixed, 0) == PATCH_COUNT && taken_stays());
+    IS(take(edition, turns, 3, mixed, 5) == PATCH_COUNT && taken_stays());
+    IS(take(edition, turns, 3, mixed, 8) == PATCH_COUNT && taken_stays());
+    IS(take(edition, turns, 4, mixed, 6) == PATCH_COUNT && taken_stays());
+    IS(take(edition, metres, 4, far_first, 6) == PATCH_COUNT && taken_stays());
     /* shot by shot */
-    IS(take(metres, 3, far_first, 6) == PATCH_RANGE && taken_stays());
-    IS(take(metres, 3, far_last, 6) == PATCH_NOT_FINITE && taken_stays());
-    IS(take(units, 3, alike, 6) == PATCH_NOT_FINITE && taken_stays());
-    IS(take(units, 3, same, 6) == PATCH_EQUAL && taken_stays());
-    IS(take(units, 4, straight, 8) == PATCH_LINE && taken_stays());
+    IS(take(edition, metres, 3, far_first, 6) == PATCH_RANGE && taken_stays());
+    IS(take(edition, metres, 3, far_last, 6) == PATCH_NOT_FINITE && taken_stays());
+    IS(take(edition, turns, 3, alike, 6) == PATCH_NOT_FINITE && taken_stays());
+    IS(take(edition, turns, 4, straight, 8) == PATCH_LINE && taken_stays());
+}
+
+/* there is no such edition, whatever else is wrong */
+static void no_edition(size_t edition)
+{
+    IS(take(edition, turns, 4, mixed, 8) == PATCH_EDITION && taken_stays());
+    IS(take(edition, metres, 10, steep, 20) == PATCH_EDITION && taken_stays());
+    IS(take(edition, metres, 11, steep, 22) == PATCH_EDITION && taken_stays());
+    IS(take(edition, turns, 2, mixed, 4) == PATCH_EDITION && taken_stays());
+    IS(take(edition, turns, 0, mixed, 0) == PATCH_EDITION && taken_stays());
+    IS(take(edition, turns, 3, mixed, 5) == PATCH_EDITION && taken_stays());
+    IS(take(edition, metres, 3, far_first, 6) == PATCH_EDITION && taken_stays());
+    IS(take(edition, metres, 3, far_last, 6) == PATCH_EDITION && taken_stays());
+    IS(take(edition, turns, 3, same_then, 6) == PATCH_EDITION && taken_stays());
+    IS(take(edition, turns, 3, same_now, 6) == PATCH_EDITION && taken_stays());
+    IS(take(edition, turns, 4, straight, 8) == PATCH_EDITION && taken_stays());
+}
+
+static void editions(void)
+{
+    static const int32_t survey[] = {1000, 2000, 300000, 0, -1000, 500, 0, -300000}, survey_apart[] = {381000, 0, 381001, 0, 0, 1000};
+    static const int32_t international[] = {1000, 2000, 299999, 0, -1000, 500, 0, -299999}, international_apart[] = {300000, 0, 299999, 0, 0, 1000};
+    /* the numbers that become a 1 or a 2 in fewer bits are among them */
+    static const size_t none[] = {0, 3, 10, 255, 256, 257, 258, 65537, 4294967297, 4294967298, SIZE_MAX - 1, SIZE_MAX};
+    controllers(SURVEY, survey);
+    controllers(INTERNATIONAL, international);
+    IS(take(SURVEY, turns, 3, same_then, 6) == PATCH_EQUAL && taken_stays());
+    IS(take(INTERNATIONAL, turns, 3, same_then, 6) == 0 && took(international_apart, 3));
+    IS(take(SURVEY, turns, 3, same_now, 6) == 0 && took(survey_apart, 3));
+    IS(take(INTERNATIONAL, turns, 3, same_now, 6) == PATCH_EQUAL && taken_stays());
+    for (size_t at = 0; at < sizeof none / sizeof none[0]; at++)
+        no_edition(none[at]);
 }
 
 /* what patch_chains is lent */
@@ -367,8 +441,10 @@ int main(void)
     patches();
     places();
     roundings();
+    survey_feet();
+    international_feet();
     no_places();
-    controllers();
+    editions();
     outline();
     circuits();
     lists();

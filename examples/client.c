@@ -32,6 +32,7 @@ static const char *in_words(uint8_t refusal)
     case PATCH_NO_FLIP: return "there is no such flip";
     case PATCH_WALK: return "the walk's record is impossible";
     case PATCH_NOT_FINITE: return "a coordinate is not finite";
+    case PATCH_EDITION: return "there is no such edition";
     default: return "given";
     }
 }

@@ -1,14 +1,18 @@
 /*
  * shots: the patch record of the shots that a controller exports.
  *
- *     shots [-f] [FILE]
+ *     shots [-f] [-e EDITION] [FILE]
  *
  * reads text, from the file or from standard input, with a shot on each line: point,northing,easting,elevation,description. The northing comes first;
- * elevation and description are not looked at, and may be missing. The numbers are metres; with -f, or where a heading in front says so, US survey
- * feet. It writes the record to standard output. What is refused is said in words on standard error, with its line, and then nothing is written.
- * Exit status: 0, 1 where the shots are refused, 2 where a file cannot be read or written, or on wrong usage.
+ * elevation and description are not looked at, and may be missing. The numbers are metres; with -f, or where a heading in front says so, feet. It
+ * writes the record to standard output. What is refused is said in words on standard error, with its line, and then nothing is written.
+ * Exit status: 0, 1 where the shots are refused, 2 where a file cannot be read or written, on wrong usage, or where -e is missing.
  *
- * The C library makes doubles of the decimals. All else about a coordinate is asked of patch_take_runs: none is rounded or compared here.
+ * Which feet they are is said by -e: 1 for US survey feet, 2 for international feet, in use after 2022. It is never guessed: feet without -e are not
+ * read, and the program asks for it. Where a heading says it too, the two must agree. Metres need no -e, and are the same with either.
+ *
+ * The C library makes doubles of the decimals. All else about a coordinate is asked of patch_take_runs: none is rounded or compared here. It also
+ * knows which editions there are.
  */
 #define _XOPEN_SOURCE 700
 #include "patch.h"
@@ -28,6 +32,8 @@ enum { KEPT = PATCH_SHOTS_MOST + 1 };
 struct job {
     const char *name;
     uint8_t feet;              /* the unit, as patch_take_runs wants it */
+    int told;                  /* -e was given */
+    size_t edition;            /* what it says, as patch_take_runs wants it */
     int begun, cut;            /* a line that is not blank has been; the line in hand was longer than its text */
     size_t line, found, count; /* the number of the line in hand; the shots so far; those of them that are kept */
     char text[4096];           /* the line in hand, without its end */
@@ -43,15 +49,16 @@ static _Noreturn void refuse(const struct job *job, const char *words)
 }
 
 /* what the words of a heading mean */
-enum { FEET = 1, METRES = 2, INTERNATIONAL = 4, OTHER = 8, NORTH = 16, EAST = 32 };
+enum { FEET = 1, METRES = 2, SURVEY = 4, INTERNATIONAL = 8, WHICH = SURVEY | INTERNATIONAL, OTHER = 16, NORTH = 32, EAST = 64 };
 
 static const struct {
     const char *word;
     int meaning;
 } meanings[] = {
-    {"ft", FEET}, {"feet", FEET}, {"foot", FEET}, {"usft", FEET}, {"ftus", FEET}, {"sft", FEET}, {"ussft", FEET},
+    {"ft", FEET}, {"feet", FEET}, {"foot", FEET}, {"us", SURVEY}, {"survey", SURVEY},
+    {"usft", FEET | SURVEY}, {"ftus", FEET | SURVEY}, {"sft", FEET | SURVEY}, {"ussft", FEET | SURVEY},
+    {"int", INTERNATIONAL}, {"intl", INTERNATIONAL}, {"international", INTERNATIONAL}, {"ift", FEET | INTERNATIONAL},
     {"m", METRES}, {"metre", METRES}, {"metres", METRES}, {"meter", METRES}, {"meters", METRES},
-    {"int", INTERNATIONAL}, {"intl", INTERNATIONAL}, {"international", INTERNATIONAL}, {"ift", INTERNATIONAL},
     {"mm", OTHER}, {"cm", OTHER}, {"km", OTHER}, {"inch", OTHER}, {"inches", OTHER}, {"yards", OTHER}, {"chains", OTHER}, {"links", OTHER},
     {"lat", OTHER}, {"latitude", OTHER}, {"lon", OTHER}, {"longitude", OTHER}, {"deg", OTHER}, {"degrees", OTHER},
     {"n", NORTH}, {"north", NORTH}, {"northing", NORTH}, {"y", NORTH},
@@ -79,21 +86,25 @@ static int joined_meaning(const char *word, size_t length)
     return word_meaning(word, length);
 }
 
-/* all that the words of a text mean */
-static int meaning(const char *text)
+/* All that the words of a field mean. The loose meanings are those that count only of a word for feet, or of one directly before or after it. */
+static int meaning(const char *text, int loose)
 {
-    int all = 0;
+    int all = 0, before = 0;
     while (*text != '\0') {
         size_t length = 0;
         while (isalpha((unsigned char)text[length]) || (unsigned char)text[length] >= 0x80)
             length++;
-        all |= joined_meaning(text, length);
+        if (length > 0) {
+            int here = joined_meaning(text, length);
+            all |= (before | here) & FEET ? before | here : here & ~loose;
+            before = here;
+        }
         text += length > 0 ? length : 1;
     }
     return all;
 }
 
-/* the fields of a line; the last is all that is left of it */
+/* the fields of a line; the last is all that is left of it, null where nothing is */
 enum { POINT, NORTHING, EASTING, LEFT, FIELDS };
 
 /* Takes a field off the front of a text, without the blanks and quotes around it. What is behind its comma, null where it has none. */
@@ -125,7 +136,7 @@ static void take_fields(const struct job *job, char *text, char *fields[FIELDS])
         if (!text && job->cut)
             refuse(job, "the line is too long");
     }
-    fields[LEFT] = text ? text : "";
+    fields[LEFT] = text;
 }
 
 /* Is the field a decimal number, all of it? The C library would read hexadecimal ones too. */
@@ -144,25 +155,41 @@ static int column(const char *field)
     return isalpha((unsigned char)*field) && !strchr(field, '"');
 }
 
-/* A heading fixes the unit. It is refused where the numbers under it would be read as what they are not. */
+/* Where a heading says which feet, -e says the same. */
+static void check_foot(const struct job *job, int all)
+{
+    if ((all & WHICH) == WHICH)
+        refuse(job, "the heading says both US survey feet and international feet");
+    if ((all & SURVEY) && job->told && job->edition == PATCH_INTERNATIONAL_FOOT)
+        refuse(job, "the heading says US survey feet, and -e 2 says international feet");
+    if ((all & INTERNATIONAL) && job->told && job->edition == PATCH_SURVEY_FOOT)
+        refuse(job, "the heading says international feet, and -e 1 says US survey feet");
+}
+
+/* A heading fixes the unit. It is refused where the numbers under it would be read as what they are not. International coordinates are feet; those of
+   a survey, or of the US, may be metres. */
 static void take_heading(struct job *job, char *fields[FIELDS])
 {
-    int north = meaning(fields[NORTHING]), east = meaning(fields[EASTING]);
-    int all = meaning(fields[POINT]) | north | east | meaning(fields[LEFT]);
+    int north = meaning(fields[NORTHING], 0), east = meaning(fields[EASTING], 0);
+    int all = meaning(fields[POINT], WHICH) | north | east;
+    for (char *left = fields[LEFT], *field; left; all |= meaning(field, WHICH))
+        left = take_field(left, &field);
+    if (all & INTERNATIONAL)
+        all |= FEET;
     if (job->cut)
         refuse(job, "the line is too long");
     if ((north & (NORTH | EAST)) == EAST || (east & (NORTH | EAST)) == NORTH)
         refuse(job, "the heading has the easting before the northing");
-    if (all & INTERNATIONAL)
-        refuse(job, "the heading says international feet; only metres and US survey feet are read");
     if ((north | east) & OTHER)
-        refuse(job, "the heading says a unit that is neither metres nor US survey feet");
+        refuse(job, "the heading says a unit that is neither metres nor feet");
     if ((all & METRES) && (all & FEET))
         refuse(job, "the heading says both metres and feet");
     if ((all & METRES) && job->feet)
         refuse(job, "the heading says metres, and -f says feet");
     if (all & FEET)
         job->feet = 1;
+    if (job->feet)
+        check_foot(job, all);
 }
 
 /* a line that is not blank: a shot or, in front of all others, the heading */
@@ -229,7 +256,7 @@ static uint8_t ask(const struct job *job, const double *a, const double *b, cons
     const double values[] = {a[0], a[1], b[0], b[1], c[0], c[1]};
     int32_t shots[PATCH_COORDINATES_MOST];
     size_t count;
-    return patch_take_runs(units, 3, values, 6, shots, &count);
+    return patch_take_runs(job->edition, units, 3, values, 6, shots, &count);
 }
 
 static const double corners[3][2] = {{0, 0}, {1, 0}, {0, 1}};
@@ -265,6 +292,9 @@ static void blame_pair(const struct job *job, uint8_t refusal)
 static int refused(const struct job *job, uint8_t refusal)
 {
     switch (refusal) {
+    case PATCH_EDITION:
+        fprintf(stderr, "%s: refused 17: there is no edition %zu; 1 is US survey feet, 2 is international feet\n", job->name, job->edition);
+        break;
     case PATCH_COUNT: fprintf(stderr, "%s: refused 1: %zu shot%s; a patch has 3 to 10\n", job->name, job->found, job->found == 1 ? "" : "s"); break;
     case PATCH_NOT_FINITE: blame_coordinate(job, refusal, "not a finite number of millimetres"); break;
     case PATCH_RANGE: blame_coordinate(job, refusal, "more than 1,000 m from the origin; give the shots from a local origin of the job"); break;
@@ -281,7 +311,7 @@ static int write_record(const struct job *job)
     int32_t shots[PATCH_COORDINATES_MOST];
     size_t count, size;
     memset(units, job->feet, sizeof units);
-    uint8_t refusal = patch_take_runs(units, job->count, job->values, 2 * job->count, shots, &count);
+    uint8_t refusal = patch_take_runs(job->edition, units, job->count, job->values, 2 * job->count, shots, &count);
     if (refusal == 0)
         refusal = patch_write_patch(shots, 2 * count, record, sizeof record, &size);
     if (refusal != 0)
@@ -292,14 +322,44 @@ static int write_record(const struct job *job)
     return 2;
 }
 
+/* Is the text a whole number, nothing but digits, that a size_t has room for? */
+static int whole(const char *text, size_t *value)
+{
+    *value = 0;
+    if (*text == '\0')
+        return 0;
+    for (; isdigit((unsigned char)*text); text++) {
+        size_t digit = (size_t)(*text - '0');
+        if (*value > (SIZE_MAX - digit) / 10)
+            return 0;
+        *value = 10 * *value + digit;
+    }
+    return *text == '\0';
+}
+
+/* False on wrong usage. Where -e is given twice, it says the same. */
+static int take_options(struct job *job, int argc, char **argv)
+{
+    int option;
+    size_t edition;
+    while ((option = getopt(argc, argv, "fe:")) != -1) {
+        if (option == 'f') {
+            job->feet = 1;
+        } else if (option == 'e' && whole(optarg, &edition) && (!job->told || edition == job->edition)) {
+            job->told = 1;
+            job->edition = edition;
+        } else {
+            return 0;
+        }
+    }
+    return argc - optind <= 1;
+}
+
 int main(int argc, char **argv)
 {
     static struct job job;
-    int option;
-    while ((option = getopt(argc, argv, "f")) == 'f')
-        job.feet = 1;
-    if (option != -1 || argc - optind > 1) {
-        fprintf(stderr, "usage: %s [-f] [FILE]\n", argv[0]);
+    if (!take_options(&job, argc, argv)) {
+        fprintf(stderr, "usage: %s [-f] [-e EDITION] [FILE]; -f says feet, EDITION which: 1 US survey feet, 2 international feet\n", argv[0]);
         return 2;
     }
     FILE *file = optind < argc ? fopen(argv[optind], "rb") : stdin;
@@ -310,5 +370,11 @@ int main(int argc, char **argv)
     }
     read_job(&job, file);
     fclose(file);
+    if (job.feet && !job.told) {
+        fprintf(stderr, "%s: these are feet; say which: -e 1 for US survey feet, -e 2 for international feet\n", job.name);
+        return 2;
+    }
+    if (!job.told)
+        job.edition = PATCH_SURVEY_FOOT; /* metres do not depend on it */
     return write_record(&job);
 }

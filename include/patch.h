@@ -6,7 +6,7 @@
  * gives, and lists every surface that flips reach from a first one. Each call is proved to answer as stated here, for every input
  * (docs/PROMISES.md).
  *
- * THE ANSWER. A call returns one number: 0 where it gives something, else the number that refuses it, 1 to 16. What it gives is never
+ * THE ANSWER. A call returns one number: 0 where it gives something, else the number that refuses it, 1 to 17. What it gives is never
  * in that number: it is written to places that the caller lends (area, count, list, ...). So 0 and a refusal cannot be
  * mistaken for a value. Where several rules are broken, the refusals are tested in the order written at the call.
  *
@@ -47,25 +47,26 @@ extern "C" {
 #define PATCH_PATCH_BYTES 84       /* no patch record is longer */
 #define PATCH_SURFACE_BYTES 365    /* no surface record is longer */
 
-/* ---- the refusals. The numbers are fixed; where several rules are broken, the order is the one written at each call, in which 10 stands before 8. */
+/* ---- the refusals. The numbers are fixed; where several rules are broken, the order is the one written at each call, in which 10 stands before 8, and 17 before 1. */
 
 enum patch_refusal {
-    PATCH_GIVEN = 0,      /* no refusal */
-    PATCH_COUNT = 1,      /* the run of coordinates is odd, or has not 3 to 10 shots, or a controller's shots have not two values each */
-    PATCH_RANGE = 2,      /* a coordinate, in whole millimetres, is not from -1,000,000 to 1,000,000 */
-    PATCH_EQUAL = 3,      /* two shots are equal */
-    PATCH_LINE = 4,       /* all shots are on one line */
-    PATCH_LENGTH = 5,     /* a record's bytes and its length disagree */
-    PATCH_VERSION = 6,    /* the version byte is not 1 */
-    PATCH_FORM = 7,       /* a number is not a shot, a triple or pair is out of form or order, a triple is flat, a bit is past the last rank, n is unlike the patch's */
-    PATCH_EMPTY = 10,     /* the list is empty */
-    PATCH_CROSSING = 8,   /* two triangles cross, overlap, or meet in part of an edge */
-    PATCH_OPEN = 9,       /* an edge is open: one triangle alone has it, and it is not on the border */
-    PATCH_ROOM = 11,      /* no room: in a table for a row, in a buffer for a record or a chain */
-    PATCH_CIRCUIT = 12,   /* there is no circuit of this number */
-    PATCH_NO_FLIP = 13,   /* there is no flip along this circuit */
-    PATCH_WALK = 15,      /* no walk has this record: rows 0 or beyond the table, or a step number above rows times circuits */
-    PATCH_NOT_FINITE = 16 /* a coordinate from a controller, or what its factors make of it, is not finite */
+    PATCH_GIVEN = 0,       /* no refusal */
+    PATCH_COUNT = 1,       /* the run of coordinates is odd, or has not 3 to 10 shots, or a controller's shots have not two values each */
+    PATCH_RANGE = 2,       /* a coordinate, in whole millimetres, is not from -1,000,000 to 1,000,000 */
+    PATCH_EQUAL = 3,       /* two shots are equal */
+    PATCH_LINE = 4,        /* all shots are on one line */
+    PATCH_LENGTH = 5,      /* a record's bytes and its length disagree */
+    PATCH_VERSION = 6,     /* the version byte is not 1 */
+    PATCH_FORM = 7,        /* a number is not a shot, a triple or pair is out of form or order, a triple is flat, a bit is past the last rank, n is unlike the patch's */
+    PATCH_EMPTY = 10,      /* the list is empty */
+    PATCH_CROSSING = 8,    /* two triangles cross, overlap, or meet in part of an edge */
+    PATCH_OPEN = 9,        /* an edge is open: one triangle alone has it, and it is not on the border */
+    PATCH_ROOM = 11,       /* no room: in a table for a row, in a buffer for a record or a chain */
+    PATCH_CIRCUIT = 12,    /* there is no circuit of this number */
+    PATCH_NO_FLIP = 13,    /* there is no flip along this circuit */
+    PATCH_WALK = 15,       /* no walk has this record: rows 0 or beyond the table, or a step number above rows times circuits */
+    PATCH_NOT_FINITE = 16, /* a coordinate from a controller, or what its factors make of it, is not finite */
+    PATCH_EDITION = 17     /* the edition is neither 1 nor 2 */
 };
 
 /* ---- what is lent
@@ -106,16 +107,19 @@ uint8_t patch_cocircuit(const int32_t *shots, size_t length, size_t i, size_t j,
    line between the two: shots along a straight fence make one side. Refused: 1 2 3 4. */
 uint8_t patch_border(const int32_t *shots, size_t length, size_t *count);
 
-/* ---- shots from a controller: doubles, in metres or US survey feet, made into whole millimetres */
+/* ---- shots from a controller: doubles, in metres or feet, made into whole millimetres. The edition says which foot is meant; nothing guesses it. */
+
+#define PATCH_SURVEY_FOOT 1        /* the edition of jobs in US survey feet: 1200 / 3937 m */
+#define PATCH_INTERNATIONAL_FOOT 2 /* the edition of jobs in international feet, in use after 2022: 0.3048 m */
 
 /* shots: the coordinates, x east and y north of each shot, 0 past the last; *count: the number of shots, so the run has 2 * *count numbers. units: a
-   byte for each shot, 0 metres, anything else US survey feet. values: east then north of each shot, so two for each byte; every double is allowed.
-   Metres are multiplied by 1000; feet are multiplied by 1,200,000 and then divided by 3937; each operation is rounded once, as the processor's double
-   does. Of that double the nearest whole number of millimetres is taken, exactly: a half goes to the even one, and negative zero is 0. Refused: 1 (not
-   3 to 10 units, or not two values for each), then shot by shot 16 (east, north or the answer of an operation is not finite) 2 (a whole number is out
-   of range), then 3 4. */
-uint8_t patch_take_runs(const uint8_t *units, size_t units_length, const double *values, size_t values_length, int32_t shots[PATCH_COORDINATES_MOST],
-                        size_t *count);
+   byte for each shot, 0 metres, anything else feet. values: east then north of each shot, so two for each byte; every double is allowed. Metres are
+   multiplied by 1000, in both editions. Feet are multiplied by 1,200,000 and then divided by 3937 in edition 1, multiplied by 3048 and then divided by
+   10 in edition 2. Each operation is rounded once, as the processor's double does. Of that double the nearest whole number of millimetres is taken,
+   exactly: a half goes to the even one, and negative zero is 0. Refused: 17 (the edition is neither 1 nor 2), 1 (not 3 to 10 units, or not two values
+   for each), then shot by shot 16 (east, north or the answer of an operation is not finite) 2 (a whole number is out of range), then 3 4. */
+uint8_t patch_take_runs(size_t edition, const uint8_t *units, size_t units_length, const double *values, size_t values_length,
+                        int32_t shots[PATCH_COORDINATES_MOST], size_t *count);
 
 /* ---- outline: the corners of the patch, the ends of its sides, as two chains of shot numbers */
 

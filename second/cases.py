@@ -34,6 +34,10 @@ PARABOLA = [(x, x * x) for x in range(-4, 6)]
 
 # The units of a shot from a controller; any byte but 0 is feet.
 METRES, FEET = 0, 1
+# What feet are multiplied by and then divided by, in each edition; and numbers that are no edition, though fewer bits
+# of some of them are.
+EDITIONS = {1: (1200000, 3937), 2: (3048, 10)}
+NO_EDITIONS = [0, 3, 4, 16, 17, 255, 256, 257, 258, 2**16 + 1, 2**32 + 1, 2**32 + 2, 2**63 + 1, U64]
 LARGEST, SMALLEST, LEAST_NORMAL = sys.float_info.max, 5e-324, sys.float_info.min
 # East and north as a field book has them, in either unit.
 BOOK = [(0.0, 0.0), (125.5, 0.32), (124.87, 98.41), (0.75, 101.023), (62.3, 48.905)]
@@ -189,22 +193,25 @@ def runs(shots):
     return [unit for unit, *_ in shots], [pattern(value) for _, *position in shots for value in position]
 
 
-def take_runs_case(shots):
-    case("take_runs", *runs(shots))
+def take_runs_case(shots, edition=1):
+    case("take_runs", edition, *runs(shots))
 
 
-def take_case(shots, behind=()):
+def take_case(shots, behind=(), edition=1):
     """The same as ten shots and a count, with other shots behind those that count."""
-    case("take", *runs([*shots, *behind]), len(shots))
+    case("take", edition, *runs([*shots, *behind]), len(shots))
 
 
-def either_case(shots):
-    rng.choice([take_runs_case, take_case])(shots)
+def either_case(shots, *editions):
+    """One of the two calls, in edition 1 or in each of these."""
+    call = rng.choice([take_runs_case, take_case])
+    for edition in editions or [1]:
+        call(shots, edition=edition)
 
 
-def both_cases(shots):
-    take_runs_case(shots)
-    take_case(shots)
+def both_cases(shots, edition=1):
+    take_runs_case(shots, edition)
+    take_case(shots, edition=edition)
 
 
 def in_units(positions, units=(METRES,)):
@@ -212,15 +219,22 @@ def in_units(positions, units=(METRES,)):
     return [(unit, *position) for position, unit in zip(positions, itertools.cycle(units))]
 
 
-def scaled(unit, value):
+def factors(unit, edition):
+    """What a value is multiplied by, and then divided by."""
+    return (1000, 1) if unit == METRES else EDITIONS[edition]
+
+
+def scaled(unit, value, edition=1):
     """What is made of a value before it is made whole."""
-    return value * 1000 if unit == METRES else value * 1200000 / 3937
+    factor, divisor = factors(unit, edition)
+    return value * factor / divisor
 
 
-def source(unit, millimetres):
+def source(unit, millimetres, edition=1):
     """A positive float that is scaled to this number, or as near to it as any."""
-    middle = millimetres / 1000 if unit == METRES else millimetres * 3937 / 1200000
-    return min((stepped(middle, k) for k in range(-8, 9)), key=lambda value: abs(scaled(unit, value) - millimetres))
+    factor, divisor = factors(unit, edition)
+    near = [stepped(millimetres * divisor / factor, k) for k in range(-8, 9)]
+    return min(near, key=lambda value: abs(scaled(unit, value, edition) - millimetres))
 
 
 def greatest(holds):
@@ -241,13 +255,66 @@ def in_pairs(values):
     return list(zip(values[::2], values[1::2]))
 
 
-def contested(unit, value):
+def contested(unit, value, edition=1):
     """Whether other ways to work it out, in another order or rounded once alone, come to another whole number."""
-    factor, divisor = (1000, 1) if unit == METRES else (1200000, 3937)
+    factor, divisor = factors(unit, edition)
     over, under = value.as_integer_ratio()
     others = [round(value * (factor / divisor)), round(value / divisor * factor), round(value / (divisor / factor))]
     others.append((2 * factor * over + divisor * under) // (2 * divisor * under))
-    return any(other != round(scaled(unit, value)) for other in others)
+    return any(other != round(scaled(unit, value, edition)) for other in others)
+
+
+def told_apart(unit, value, edition):
+    """Whether another edition comes to another whole number."""
+    return any(round(scaled(unit, value, other)) != round(scaled(unit, value, edition)) for other in EDITIONS)
+
+
+def near_halves(holds, unit, most, edition=1):
+    """Ten shots of floats for which this holds, each next to a half of a millimetre, up to a most."""
+    values = []
+    while len(values) < 20:
+        value = stepped(source(unit, rng.randint(0, most) + 0.5, edition), rng.randint(-2, 2))
+        values += [value] if holds(unit, value, edition) else []
+    return in_units(in_pairs(signed(values)), [unit])
+
+
+def last_in_range(unit, edition=1):
+    return greatest(lambda value: scaled(unit, value, edition) <= LIMIT + 0.5)
+
+
+def decimals(n, units):
+    """Shots in any of these units, as a controller gives them."""
+    size, places = rng.choice([1, 50, 1000]), rng.choice([2, 3, 4, 17])
+    reach = {METRES: size, FEET: 3 * size}
+    value = lambda unit: round(rng.uniform(-reach[unit], reach[unit]), places)
+    return [(unit, value(unit), value(unit)) for unit in rng.choices(units, k=n)]
+
+
+def close_pair(unit):
+    """Four shots, two of them half a millimetre apart or nearly: one in feet, one in this unit."""
+    edition, number = rng.choice([*EDITIONS]), rng.randint(1, LIMIT - 10)
+    close = stepped(source(FEET, number + 0.5, edition), rng.randint(-2, 2))
+    whole = source(unit, number + rng.randrange(2), edition)
+    return [(FEET, 0.0, close), (FEET, -1.0, 2.0), (unit, 0.0, whole), (METRES, 3.0, -5.0)]
+
+
+def lined_up(units):
+    """A shot in each of these units, on one line in one of the editions."""
+    edition, steps = rng.choice([*EDITIONS]), rng.sample(range(1, 100), 2)
+    places = rng.sample(range(1, 10_000), len(units))
+    return [(unit, *[source(unit, place * step, edition) for step in steps]) for unit, place in zip(units, places)]
+
+
+def made_whole(shots, edition):
+    return [tuple(round(scaled(unit, value, edition)) for value in position) for unit, *position in shots]
+
+
+def only_in(edition, make, *arguments):
+    """The first shots made that are refused in this edition and in no other."""
+    while True:
+        shots = make(*arguments)
+        if [other for other in EDITIONS if not accepted(made_whole(shots, other))] == [edition]:
+            return shots
 
 
 # Groups of cases
@@ -843,35 +910,47 @@ def intake_cases():
         take_case(shots[:n], shots[n:])
 
 
+def halves_in(units, edition=1):
+    for unit, low, steps in itertools.product(units, [0, 1000, LIMIT - 20], [-1, 0, 1]):
+        values = [stepped(source(unit, low + i + 0.5, edition), steps) for i in range(20)]
+        either_case(in_units(in_pairs(signed(values)), [unit]), edition)
+
+
+def contested_in(units, edition=1):
+    for unit, most in itertools.product(units, [50, LIMIT // 7, LIMIT - 1]):
+        either_case(near_halves(contested, unit, most, edition), edition)
+
+
+def tiny_in(units, edition=1):
+    tiny = [0.0, -0.0, SMALLEST, LEAST_NORMAL - SMALLEST, LEAST_NORMAL, 1e-300, 1e-20, 0.0001]
+    for unit, value in itertools.product(units, tiny):
+        either_case(in_units([(value, -value), (1.0, value), (-value, -1.0)], [unit]), edition)
+
+
 def half_cases():
     remark("intake: halves, and the floats before and after them")
-    for unit, low, steps in itertools.product([METRES, FEET], [0, 1000, LIMIT - 20], [-1, 0, 1]):
-        values = [stepped(source(unit, low + i + 0.5), steps) for i in range(20)]
-        either_case(in_units(in_pairs(signed(values)), [unit]))
+    halves_in([METRES, FEET])
     for low in [0, 500, 15_980]:
         either_case(in_units(in_pairs(signed([(low + i) / 16 for i in range(1, 21)]))))
     remark("intake: halves as decimals, which are not quite halves")
     for low in [0, 20, 1000, 32_767, 654_321]:
         either_case(in_units(in_pairs(signed([(2 * (low + i) + 1) / 2000 for i in range(20)]))))
     remark("intake: floats that another way of working them out takes to another number")
-    for unit, most in itertools.product([METRES, FEET], [50, LIMIT // 7, LIMIT - 1]):
-        values = []
-        while len(values) < 20:
-            value = stepped(source(unit, rng.randint(0, most) + 0.5), rng.randint(-2, 2))
-            values += [value] if contested(unit, value) else []
-        either_case(in_units(in_pairs(signed(values)), [unit]))
+    contested_in([METRES, FEET])
     remark("intake: both zeros, and floats that are next to nothing")
-    tiny = [0.0, -0.0, SMALLEST, LEAST_NORMAL - SMALLEST, LEAST_NORMAL, 1e-300, 1e-20, 0.0001]
-    for unit, value in itertools.product([METRES, FEET], tiny):
-        either_case(in_units([(value, -value), (1.0, value), (-value, -1.0)], [unit]))
+    tiny_in([METRES, FEET])
+
+
+def edges_in(units, edition=1):
+    for unit, sign, swap in itertools.product(units, [1, -1], [1, -1]):
+        last = last_in_range(unit, edition)
+        for value in [last, stepped(last, 1)]:
+            either_case(in_units([(0.0, 0.0), (1.0, 1.0), (sign * value, 0.5)[::swap]], [unit]), edition)
 
 
 def far_cases():
     remark("intake: the last floats in the range of coordinates, and the first out of it")
-    for unit, sign, swap in itertools.product([METRES, FEET], [1, -1], [1, -1]):
-        last = greatest(lambda value: scaled(unit, value) <= LIMIT + 0.5)
-        for value in [last, stepped(last, 1)]:
-            either_case(in_units([(0.0, 0.0), (1.0, 1.0), (sign * value, 0.5)[::swap]], [unit]))
+    edges_in([METRES, FEET])
     remark("intake: far out, also where fewer bits would bring it back")
     far = [LIMIT + 1, 2**31 - 1, 2**31, 2**32, 2**32 + 5, 2**48 + 3, 2**52 + 1, 2**53, 2**63, 2**64, 2**64 + 2**12]
     for millimetres in [*far, 1e30]:
@@ -879,21 +958,26 @@ def far_cases():
         either_case(in_units([(0.0, 0.0), (value, 0.0), (0.0, 1.0)]))
 
 
-def not_finite_cases():
-    remark("intake: infinities and NaNs")
-    for unit, value in itertools.product([METRES, FEET], [math.inf, -math.inf, *NANS]):
+def not_finite_in(units, edition=1):
+    for unit, value in itertools.product(units, [math.inf, -math.inf, *NANS]):
         shots = in_units(BOOK[: rng.choice([3, 3, 4])], [unit])
         shots[rng.randrange(len(shots))] = (unit, *rng.sample([value, 0.5], 2))
-        either_case(shots)
-    remark("intake: the last floats with finite answers, and the first without")
-    for unit in [METRES, FEET]:
-        last = greatest(lambda value: math.isfinite(scaled(unit, value)))
+        either_case(shots, edition)
+
+
+def last_finite_in(units, edition=1):
+    for unit in units:
+        last = greatest(lambda value: math.isfinite(scaled(unit, value, edition)))
         for value in [last, stepped(last, 1), -last, -stepped(last, 1)]:
-            either_case(in_units([(0.0, 0.0), (1.0, 1.0), rng.sample([value, 0.5], 2)], [unit]))
-    remark("intake: huge floats; a product may be too large although the quotient would not be")
-    for unit, value in itertools.product([METRES, FEET], [1e302, 1.5e302, 1e303, LARGEST, -LARGEST]):
-        either_case(in_units([(0.0, 0.0), (value, 1.0), (1.0, 0.0)], [unit]))
-    remark("intake: several faults, in one shot and in several")
+            either_case(in_units([(0.0, 0.0), (1.0, 1.0), rng.sample([value, 0.5], 2)], [unit]), edition)
+
+
+def huge_in(units, huge, *editions):
+    for unit, value in itertools.product(units, huge):
+        either_case(in_units([(0.0, 0.0), (value, 1.0), (1.0, 0.0)], [unit]), *editions)
+
+
+def faults_in(units, edition=1):
     nan, far = NANS[0], 5000.0
     for positions in [
         [(0.0, 0.0), (far, nan), (1.0, 0.0)],
@@ -910,7 +994,19 @@ def not_finite_cases():
         [(0.0, 0.0), (1e301, 1.0), (LARGEST, 1.0)],
         [(0.0, 0.0), (1.0, 1.0), (1e301, LARGEST)],
     ]:
-        either_case(in_units(positions, [rng.choice([METRES, FEET])]))
+        either_case(in_units(positions, [rng.choice(units)]), edition)
+
+
+def not_finite_cases():
+    remark("intake: infinities and NaNs")
+    not_finite_in([METRES, FEET])
+    remark("intake: the last floats with finite answers, and the first without")
+    last_finite_in([METRES, FEET])
+    remark("intake: huge floats; a product may be too large although the quotient would not be")
+    huge_in([METRES, FEET], [1e302, 1.5e302, 1e303, LARGEST, -LARGEST])
+    remark("intake: several faults, in one shot and in several")
+    faults_in([METRES, FEET])
+    nan, far = NANS[0], 5000.0
     for east in [1000.0005, -1000.001]:
         either_case(in_units([(0.0, 0.0), (east, 1.0), (nan, 1.0)]))
     remark("intake: shots behind those that count are not looked at")
@@ -927,20 +1023,20 @@ def intake_refusal_cases():
         both_cases(in_units([(NANS[0], LARGEST)] * n))
     units, values = runs(in_units(BOOK))
     for sizes in [(3, 0), (3, 3), (3, 5), (3, 7), (3, 8), (4, 6), (2, 6), (0, 6), (0, 1), (10, 19), (9, 20), (11, 20)]:
-        case("take_runs", (units + [FEET])[: sizes[0]], values[: sizes[1]])
+        case("take_runs", 1, (units + [FEET])[: sizes[0]], values[: sizes[1]])
     for size in [256 + 3, 65_536 + 3, 65_600]:
-        case("take_runs", [METRES] * size, values[:6])
-    case("take_runs", [METRES] * 3, [NANS[0]] * 5)
+        case("take_runs", 1, [METRES] * size, values[:6])
+    case("take_runs", 1, [METRES] * 3, [NANS[0]] * 5)
     for count in [0, 2, 11, 256 + 3, 2**32 + 3, 2**63 + 3, U64]:
-        case("take", units, values, count)
+        case("take", 1, units, values, count)
     remark("intake: arrays that the runs do not fill, or more than fill")
-    case("take", [], [], 3)
-    case("take", [FEET], values[2:8], 3)
-    case("take", [FEET] * 5, values[2:9], 4)
-    case("take", [FEET] * 4, values[2:9], 5)
-    case("take", [*units, 9, 9], [*values, *NANS], 10)
-    case("take", [*units, 9, 9], [*values, *NANS], 11)
-    case("take", [METRES] * 65_600, values, 7)
+    case("take", 1, [], [], 3)
+    case("take", 1, [FEET], values[2:8], 3)
+    case("take", 1, [FEET] * 5, values[2:9], 4)
+    case("take", 1, [FEET] * 4, values[2:9], 5)
+    case("take", 1, [*units, 9, 9], [*values, *NANS], 10)
+    case("take", 1, [*units, 9, 9], [*values, *NANS], 11)
+    case("take", 1, [METRES] * 65_600, values, 7)
     remark("intake: 3, where shots are equal once they are whole")
     for unit, steps in itertools.product([METRES, FEET], [0, 1, -1]):
         half, whole = stepped(source(unit, 2.5), steps), source(unit, 2.0)
@@ -959,10 +1055,7 @@ def intake_refusal_cases():
 def random_intake_cases():
     remark("intake: random shots, mixed, as a controller gives them")
     for n in [*range(3, 11)] * 2:
-        size, places = rng.choice([1, 50, 1000]), rng.choice([2, 3, 4, 17])
-        reach = {METRES: size, FEET: 3 * size}
-        value = lambda unit: round(rng.uniform(-reach[unit], reach[unit]), places)
-        either_case([(unit, value(unit), value(unit)) for unit in rng.choices([METRES, FEET], k=n)])
+        either_case(decimals(n, [METRES, FEET]))
     remark("intake: random patterns among others: any, next to nothing, and from 0.00003 to 512")
     for n in [*range(3, 11)] * 2:
         shots = in_units(shuffled(BOOK)[:n], rng.choices([METRES, FEET, rng.randrange(256)], k=n))
@@ -973,6 +1066,97 @@ def random_intake_cases():
         either_case(shots)
 
 
+def edition_cases():
+    remark("editions: 3,000 feet, and the field book in feet, in both units and in metres, in each edition")
+    for edition in EDITIONS:
+        both_cases(in_units([(0.0, 0.0), (3000.0, 0.0), (-3000.0, 3000.0), (0.0, -3000.0)], [FEET]), edition)
+    for units in [[FEET], [METRES, FEET], [2, METRES, 255, FEET, 128], [METRES]]:
+        either_case(in_units(BOOK, units), *EDITIONS)
+    remark("editions: random decimals in feet and in both units, in each edition")
+    for n, units in itertools.product([3, 5, 8, 10], [[FEET], [METRES, FEET]]):
+        either_case(decimals(n, units), *EDITIONS)
+    remark("editions: small numbers of feet that each edition takes to another number")
+    for most in [9, 900, 90_000]:
+        either_case(near_halves(told_apart, FEET, most, rng.choice([*EDITIONS])), *EDITIONS)
+    remark("editions: metres that another way of working them out takes to another number, in each edition")
+    for most in [50, LIMIT // 7, LIMIT - 1]:
+        either_case(near_halves(contested, METRES, most), *EDITIONS)
+    remark("edition 2: shots behind those that count are not looked at")
+    for n, position in [(3, (NANS[0], 0.0)), (6, BOOK[0]), (9, (LARGEST, 5000.0))]:
+        take_case(in_units(BOOK[:n], [FEET, METRES]), in_units([position] * (10 - n), [FEET]), 2)
+
+
+def edition_half_cases():
+    remark("edition 2: halves, and the floats before and after them")
+    halves_in([FEET], 2)
+    remark("edition 2: exact halves, which are odd multiples of 0.625 feet, and the floats before and after them")
+    for low, steps in itertools.product([1, 5201], [-1, 0, 1]):
+        values = [stepped((low + 2 * i) * 0.625, steps) for i in range(20)]
+        either_case(in_units(in_pairs(signed(values)), [FEET]), 2)
+    remark("edition 2: decimals close to halves, which are not quite halves")
+    for low, places in [(0, 5), (20, 4), (1000, 4), (32_767, 6), (654_321, 5)]:
+        values = [round(source(FEET, low + i + 0.5, 2), places) for i in range(20)]
+        either_case(in_units(in_pairs(signed(values)), [FEET]), 2)
+    remark("edition 2: floats that another way of working them out takes to another number")
+    contested_in([FEET], 2)
+    remark("edition 2: both zeros, and floats that are next to nothing")
+    tiny_in([FEET], 2)
+
+
+def edition_far_cases():
+    remark("edition 2: the last floats in the range of coordinates, and the first out of it")
+    edges_in([FEET], 2)
+    remark("editions: in range in edition 2, and out of it in edition 1")
+    for value in [stepped(last_in_range(FEET, 1), 1), 3280.84, last_in_range(FEET, 2)]:
+        either_case(in_units([(0.0, 0.0), (1.0, 1.0), rng.sample([value, 0.5], 2)], [FEET]), *EDITIONS)
+    remark("edition 2: infinities and NaNs")
+    not_finite_in([FEET], 2)
+    remark("edition 2: the last floats with finite answers, and the first without")
+    last_finite_in([FEET], 2)
+    remark("edition 2: huge floats; a product may be too large although the quotient would not be")
+    huge_in([FEET], [5e304, 6e304, LARGEST, -LARGEST], 2)
+    remark("editions: huge floats with a finite product in edition 2 alone")
+    huge_in([FEET], [1.5e302, -5.8e304], *EDITIONS)
+    remark("edition 2: several faults, in one shot and in several")
+    faults_in([FEET], 2)
+
+
+def one_edition_cases():
+    remark("editions: 3 in one of them alone, between feet, and between feet and metres")
+    for edition, unit in itertools.product(EDITIONS, [FEET, METRES]):
+        either_case(only_in(edition, close_pair, unit), *EDITIONS)
+    for metres in [914.4, 914.402]:
+        shots = [(METRES, metres, -metres), (FEET, 0.0, 0.0), (FEET, 3000.0, -3000.0), (METRES, 1.0, 0.0)]
+        either_case(shots, *EDITIONS)
+    remark("editions: 4 in one of them alone, in feet and in both units")
+    for edition, units in itertools.product(EDITIONS, [[FEET] * 3, [FEET, METRES, FEET]]):
+        either_case(only_in(edition, lined_up, units), *EDITIONS)
+
+
+def edition_refusal_cases():
+    remark("editions: 17, of shots that an edition would accept")
+    for edition, unit in zip(NO_EDITIONS, itertools.cycle([FEET, METRES])):
+        both_cases(in_units(BOOK[:3], [unit]), edition)
+    remark("editions: 17 before every other refusal, and what is refused in edition 2")
+    nan, far = NANS[0], 5000.0
+    for edition, positions in itertools.product([2, *NO_EDITIONS], [
+        [],
+        [(0.0, 0.0)] * 11,
+        [(0.0, 0.0), (nan, 1.0), (1.0, 0.0)],
+        [(0.0, 0.0), (1.0, far), (1.0, 0.0)],
+        [(1.0, 1.0), (2.0, 0.0), (1.0, 1.0)],
+        [(0.0, 0.0), (1.0, 1.0), (2.0, 2.0)],
+    ]):
+        either_case(in_units(positions, [rng.choice([METRES, FEET])]), edition)
+    units, values = runs(in_units(BOOK[1:4], [FEET]))
+    for edition in [2, *NO_EDITIONS]:
+        case("take_runs", edition, units, values[:5])
+        case("take", edition, units, values, 256 + 3)
+    remark("editions: 1 before 16, 2 and 3")
+    for edition, n in itertools.product(EDITIONS, [2, 11]):
+        both_cases(in_units([(LARGEST, far)] * n, [FEET]), edition)
+
+
 def main():
     for group in [
         document_cases, run_cases, shot_cases, extreme_cases, circuit_cases, list_cases, changed_surface_cases,
@@ -980,7 +1164,8 @@ def main():
         start_cases, walk_record_cases, table_cases, random_table_cases, run_length_cases, capacity_cases,
         patch_record_cases, surface_record_cases, buffer_cases, result_cases, side_cases, orientation_cases, rank_cases,
         outline_cases, random_outline_cases, outline_buffer_cases, part_cases, intake_cases, half_cases, far_cases,
-        not_finite_cases, intake_refusal_cases, random_intake_cases,
+        not_finite_cases, intake_refusal_cases, random_intake_cases, edition_cases, edition_half_cases,
+        edition_far_cases, one_edition_cases, edition_refusal_cases,
     ]:
         group()
 

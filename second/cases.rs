@@ -145,11 +145,11 @@ fn cocircuit_answer(arguments: &mut Arguments) -> String {
 }
 
 fn taken(call: &str, arguments: &mut Arguments) -> Result<Vec<i32>, Refusal> {
-    let (units, values) = (arguments.run::<u8>(), arguments.run::<u64>());
+    let (edition, units, values) = (arguments.number(), arguments.run::<u8>(), arguments.run::<u64>());
     if call == "take" {
-        intake::take(&padded(units, 10), &padded(values, 20), arguments.number())
+        intake::take(edition, &padded(units, 10), &padded(values, 20), arguments.number())
     } else {
-        intake::take_runs(&units, &values)
+        intake::take_runs(edition, &units, &values)
     }
 }
 

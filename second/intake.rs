@@ -1,4 +1,4 @@
-//! Shots from a controller (request E2), in metres or in feet, made into the coordinates of a patch.
+//! Shots from a controller (requests E2 and E13), in metres or in feet, made into the coordinates of a patch.
 //!
 //! A double is taken apart into whole numbers; each operation on it is worked out exactly, and rounded here. No float
 //! arithmetic of the machine has a part in it.
@@ -8,8 +8,12 @@ use crate::patch::{Patch, Refusal, LIMIT, SHOT_COUNTS};
 /// What one operation multiplies by, and what it divides by.
 type Operation = [u128; 2];
 
+/// The operations on metres, and those on feet.
+type Scales = [&'static [Operation]; 2];
+
 const METRES: &[Operation] = &[[1000, 1]];
-const FEET: &[Operation] = &[[1_200_000, 1], [1, 3937]];
+const SURVEY_FEET: &[Operation] = &[[1_200_000, 1], [1, 3937]];
+const INTERNATIONAL_FEET: &[Operation] = &[[3048, 1], [1, 10]];
 
 const LEAST_EXPONENT: i32 = -1074;
 const MOST_EXPONENT: i32 = 971;
@@ -68,30 +72,41 @@ fn nearest(over: u128, under: u128) -> u128 {
 }
 
 /// A value of this unit in millimetres, before it is made whole; none where it or an operation's answer is not finite.
-fn millimetres(unit: u8, value: u64) -> Option<Double> {
-    let operations = if unit == 0 { METRES } else { FEET };
+fn millimetres([metres, feet]: Scales, unit: u8, value: u64) -> Option<Double> {
+    let operations = if unit == 0 { metres } else { feet };
     operations.iter().try_fold(Double::new(value)?, |double, &operation| double.after(operation))
 }
 
 /// The two coordinates of a shot. Both are looked at for 16 before either is for 2.
-fn shot(unit: u8, position: &[u64]) -> Result<Vec<i32>, Refusal> {
-    let doubles: Option<Vec<_>> = position.iter().map(|&value| millimetres(unit, value)).collect();
+fn shot(scales: Scales, unit: u8, position: &[u64]) -> Result<Vec<i32>, Refusal> {
+    let doubles: Option<Vec<_>> = position.iter().map(|&value| millimetres(scales, unit, value)).collect();
     let wholes: Option<Vec<_>> = doubles.ok_or(Refusal::NotFinite)?.into_iter().map(Double::whole).collect();
     wholes.ok_or(Refusal::Range)
 }
 
+/// The operations of an edition.
+fn scales(edition: u64) -> Result<Scales, Refusal> {
+    match edition {
+        1 => Ok([METRES, SURVEY_FEET]),
+        2 => Ok([METRES, INTERNATIONAL_FEET]),
+        _ => Err(Refusal::Edition),
+    }
+}
+
 /// The coordinates of an accepted patch, from a unit for each shot, and its east and its north as patterns of doubles.
-pub fn take_runs(units: &[u8], values: &[u64]) -> Result<Vec<i32>, Refusal> {
+pub fn take_runs(edition: u64, units: &[u8], values: &[u64]) -> Result<Vec<i32>, Refusal> {
+    let scales = scales(edition)?;
     if values.len() != 2 * units.len() || !SHOT_COUNTS.contains(&units.len()) {
         return Err(Refusal::ShotCount);
     }
-    let shots: Result<Vec<_>, _> = units.iter().zip(values.chunks(2)).map(|(&u, position)| shot(u, position)).collect();
+    let positions = units.iter().zip(values.chunks(2));
+    let shots: Result<Vec<_>, _> = positions.map(|(&unit, position)| shot(scales, unit, position)).collect();
     let coordinates = shots?.concat();
     Patch::accept(&coordinates).map(|_| coordinates)
 }
 
-/// The same of the first `count` shots of ten.
-pub fn take(units: &[u8], values: &[u64], count: u64) -> Result<Vec<i32>, Refusal> {
-    let count = usize::try_from(count).ok().filter(|count| SHOT_COUNTS.contains(count)).ok_or(Refusal::ShotCount)?;
-    take_runs(&units[..count], &values[..2 * count])
+/// The same of the first `count` shots of ten. A count that no patch has is refused as no shots are.
+pub fn take(edition: u64, units: &[u8], values: &[u64], count: u64) -> Result<Vec<i32>, Refusal> {
+    let count = usize::try_from(count).ok().filter(|count| SHOT_COUNTS.contains(count)).unwrap_or(0);
+    take_runs(edition, &units[..count], &values[..2 * count])
 }

@@ -4,7 +4,7 @@ use crate::geometry::{cross, opposed, turn, Homogeneous};
 use std::cell::OnceCell;
 use std::collections::BTreeSet;
 
-/// Document 01's refusals, each with its number; 14 is none since request E9, and 16 is request E2's.
+/// Document 01's refusals, each with its number; 14 is none since request E9, 16 is request E2's and 17 E13's.
 #[derive(Clone, Copy, Debug, PartialEq)]
 pub enum Refusal {
     ShotCount = 1,
@@ -22,6 +22,7 @@ pub enum Refusal {
     NoFlip = 13,
     WalkRecord = 15,
     NotFinite = 16,
+    Edition = 17,
 }
 
 pub const SHOT_COUNTS: std::ops::RangeInclusive<usize> = 3..=10;

@@ -28,7 +28,7 @@ use Rattle.surfaces.specs.Areas.{tripleAreaOf, areaSumOf}
 use Rattle.surfaces.specs.Calls.{placingOf, flipOf}
 use Rattle.reach.specs.Walks.{seenIn, impossible, storeOf, tryOf, stepOf, stepsOf, runOf, startOf}
 use Rattle.intake.specs.Nearest.{wholeOf}
-use Rattle.intake.specs.Scaling.{float, surveyFoot, scaledOf}
+use Rattle.intake.specs.Scaling.{float, footOf, scaledOf}
 use Rattle.intake.specs.Tests.{farOff}
 use Rattle.intake.specs.Calls.{takeOf}
 use Rattle.cases.specs.Table.{Case, replyTo, table}
@@ -38,6 +38,6 @@ pub cases-right : map (λ (c : Case). replyTo (c .patch) (c .asked)) table ≡ m
 unfolding chain any tally tabulate run over signOf opposite value xOf yOf areaOf orientOf betweenOf badCount farAt someFar sameAt sameBefore someSame bentAt bentOf bentBefore someBent orientationOf signAt cocircuitOf sidesOf borderCallOf side split maskOf oneIf three threesWith threesFrom threes four foursUpon foursWith foursFrom fours circuitsOf countCallOf circuitCallOf refusal anyOf first fold picks isOn allOn sameList union dropped bit nest placeOf setBit member putIn sift someLeft someRight borderOf outsideAt someOutside sidePairOf tripleCount tripleAt rankOf isFlat pastLast someFlat isEmpty sidesIn crosses crossing shared openAt openEdge listRefusalOf testOf tripleAreaOf areaSumOf listed supportOf piecesOf completes someLink mixedLinks supports joins exchanged flippedOf firstOff beginOf thirdIn loneThird visible withEdge withEdges placeShot placeNext placedOf placingOf flipOf rowOf setRow seenIn impossible storeOf tryOf stepOf stepsOf runOf startOf wrote beforeOf firstOf passesOf nextOf chainFrom chainOf roomOf chainsOf
 cases-right = refl
 
-pub controller-right : map (λ (g : Given). takeOf (g .shots) (g .count)) controller ≡ map (λ (g : Given). g .stated) controller
-unfolding chain any anyOf wrote signOf xOf yOf areaOf orientOf badCount farAt someFar sameAt sameBefore someSame bentAt bentOf bentBefore someBent wholeOf float surveyFoot scaledOf farOff takeOf trailingZeros span climb size odd units round mul div ofInt
+pub controller-right : map (λ (g : Given). takeOf (g .edition) (g .shots) (g .count)) controller ≡ map (λ (g : Given). g .stated) controller
+unfolding chain any anyOf wrote signOf xOf yOf areaOf orientOf badCount farAt someFar sameAt sameBefore someSame bentAt bentOf bentBefore someBent wholeOf float footOf scaledOf farOff takeOf trailingZeros span climb size odd units round mul div ofInt
 controller-right = refl

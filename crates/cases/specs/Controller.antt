@@ -1,7 +1,7 @@
--- Shots from a controller as document 02, E2, takes them, worked out by hand: floats that are exact in binary, so that a reader can check each.
+-- Shots from a controller as document 02, E2 and E13, takes them, worked out by hand: floats that are exact in binary, so that a reader can check each.
 --
---   Given         an array's shots, how many of them are given, and what `take` answers
---   controller    the cases: plain metres and feet, halves of both signs in both units, -0, what is past the count; 1; 16 and 2 in their order; 3 and 4 on the whole numbers
+--   Given         an edition, an array's shots, how many of them are given, and what `take` answers
+--   controller    the cases: plain metres and feet, halves of both signs in both units, -0, what is past the count; 1; 16 and 2 in their order; 3 and 4 on the whole numbers; then the two editions beside each other, and 17
 --
 -- Theorem: proofs/Cases (`controller-right`).
 use mathlib.Core.Bool.{true, false}
@@ -16,6 +16,7 @@ use Rattle.intake.specs.declared.Shot.{Shot}
 use Rattle.intake.specs.declared.Shot.the-variants.{Metres, Feet}
 
 pub record Given : Type 0 where
+  pub edition : ℕ
   pub shots : List Shot
   pub count : ℕ
   pub stated : PatchRead
@@ -45,7 +46,22 @@ three-foot-halves = fin false 11811 (negsuc 7)
 abbrev far-foot : Float
 far-foot = fin false 3937 (negsuc 0)
 
--- 2 ^ 1004: times 1200000 it is beyond every f64, times 1000 it is not
+-- 5 / 8 and three times that, in international feet 190.5 mm and 571.5 mm
+abbrev other-half : Float
+other-half = fin false 5 (negsuc 2)
+
+abbrev three-other-halves : Float
+three-other-halves = fin false 15 (negsuc 2)
+
+-- 3000, in US survey feet 914401.83 mm and in international feet 914400 mm
+abbrev three-thousand : Float
+three-thousand = fin false 375 (pos 3)
+
+-- 419947 / 128, in US survey feet 1000000.79 mm and in international feet 999998.79 mm
+abbrev edge : Float
+edge = fin false 419947 (negsuc 6)
+
+-- 2 ^ 1004: times 1200000 it is beyond every f64, times 1000 or 3048 it is not
 abbrev huge : Float
 huge = fin false 1 (pos 1004)
 
@@ -62,8 +78,11 @@ refused n = record { answer = refuses n; coordinates = replicate 20 (pos 0) }
 abbrev front : Shot → Shot → Shot → List Shot
 front a b c = a ∷ b ∷ c ∷ replicate 7 (Metres nan nan)
 
+abbrev givenIn : ℕ → Shot → Shot → Shot → PatchRead → Given
+givenIn e a b c r = record { edition = e; shots = front a b c; count = 3; stated = r }
+
 abbrev given : Shot → Shot → Shot → PatchRead → Given
-given a b c r = record { shots = front a b c; count = 3; stated = r }
+given = givenIn 1
 
 -- two that are always in order
 abbrev origin : Shot
@@ -79,8 +98,8 @@ controller =
     ∷ given origin (Metres sixteenth three-sixteenths) (Metres (fin true 1 (negsuc 3)) (fin true 3 (negsuc 3))) (refused 4)
     ∷ given metre-east (Metres sixteenth three-sixteenths) (Metres (fin true 1 (negsuc 3)) (fin true 3 (negsuc 3))) (three (pos 1000) (pos 0) (pos 62) (pos 188) (negsuc 61) (negsuc 187))
     ∷ given metre-east (Feet foot-half three-foot-halves) (Feet (fin true 3937 (negsuc 7)) (fin true 11811 (negsuc 7))) (three (pos 1000) (pos 0) (pos 4688) (pos 14062) (negsuc 4687) (negsuc 14061))
-    ∷ record { shots = front origin metre-east origin; count = 2; stated = refused 1 }
-    ∷ record { shots = front origin metre-east origin; count = 11; stated = refused 1 }
+    ∷ record { edition = 1; shots = front origin metre-east origin; count = 2; stated = refused 1 }
+    ∷ record { edition = 1; shots = front origin metre-east origin; count = 11; stated = refused 1 }
     ∷ given origin metre-east (Metres nan nought) (refused 16)
     ∷ given origin metre-east (Feet nought (inf true)) (refused 16)
     ∷ given origin metre-east (Feet huge nought) (refused 16)
@@ -88,4 +107,16 @@ controller =
     ∷ given origin metre-east (Metres huge nan) (refused 16)
     ∷ given origin (Metres nought huge) (Metres nan nought) (refused 2)
     ∷ given origin metre-east (Metres (fin false 1 (negsuc 10)) below-nought) (refused 3)
+    ∷ givenIn 1 metre-east (Feet three-thousand nought) (Feet nought (fin true 375 (pos 3))) (three (pos 1000) (pos 0) (pos 914402) (pos 0) (pos 0) (negsuc 914401))
+    ∷ givenIn 2 metre-east (Feet three-thousand nought) (Feet nought (fin true 375 (pos 3))) (three (pos 1000) (pos 0) (pos 914400) (pos 0) (pos 0) (negsuc 914399))
+    ∷ givenIn 2 metre-east (Feet other-half three-other-halves) (Feet (fin true 5 (negsuc 2)) (fin true 15 (negsuc 2))) (three (pos 1000) (pos 0) (pos 190) (pos 572) (negsuc 189) (negsuc 571))
+    ∷ givenIn 2 metre-east (Metres sixteenth three-sixteenths) (Metres (fin true 1 (negsuc 3)) (fin true 3 (negsuc 3))) (three (pos 1000) (pos 0) (pos 62) (pos 188) (negsuc 61) (negsuc 187))
+    ∷ givenIn 1 origin metre-east (Feet nought edge) (refused 2)
+    ∷ givenIn 2 origin metre-east (Feet nought edge) (three (pos 0) (pos 0) (pos 1000) (pos 0) (pos 0) (pos 999999))
+    ∷ givenIn 2 origin metre-east (Feet huge nought) (refused 2)
+    ∷ givenIn 2 origin metre-east (Feet (fin false 1 (pos 1014)) nought) (refused 16)
+    ∷ record { edition = 2; shots = front origin metre-east origin; count = 2; stated = refused 1 }
+    ∷ givenIn 0 origin metre-east (Metres nought (fin false 1 (pos 0))) (refused 17)
+    ∷ givenIn 3 origin metre-east (Metres nan nought) (refused 17)
+    ∷ record { edition = 257; shots = front origin metre-east origin; count = 2; stated = refused 17 }
     ∷ []

@@ -4,13 +4,14 @@
 --   closest-nearest   so with a sign it is nearest to the fraction of that sign
 --   nearest-one       no other number is
 --   nearest-moved     an even number more, on both sides
+--   nearest-shared    what the fraction's two numbers share goes
 --   whole-nearest, whole-only    `wholeOf x` is nearest to a finite x, and no other number is
 --   whole-size        its size
 use mathlib.Core.Path.{_≡_, refl, sym, _∙_, ap, subst}
 use mathlib.Core.Bool.{Bool, true, false, not, cond}
 use mathlib.Core.List.{[], _∷_}
 use Prim.Native.Nat.{ℕ, zero, suc, _+_, _-_, _*_, _/_, _%_, _≤_, _<_, compare, Ordering, Ordering·lt, Ordering·eq, Ordering·gt}
-use native.Mathlib.Nat.{mul-le-mul-right, div-add-mod', mod-lt}
+use native.Mathlib.Nat.{mul-assoc, mul-le-mul-right, le-of-mul-le-mul-right, div-add-mod', mod-lt}
 use native.Mathlib.Omega.{arith}
 use native.Mathlib.Decide.{decLt}
 use borrow.Author.Tests.{lt-ltb, le-ltb}
@@ -156,6 +157,18 @@ nearest-moved A D h n a = record {
   where
     same : offBy A D (n -ℤ pos (2 * h)) ≡ offBy (A +ℤ pos (2 * h) *ℤ pos D) D n
     same = ap natAbs (ring (A ∷ n ∷ pos (2 * h) ∷ pos D ∷ []) (var 0 ⊝ (var 1 ⊝ var 2) ⊗ var 3) (var 0 ⊕ var 2 ⊗ var 3 ⊝ var 1 ⊗ var 3) tt)
+
+pub nearest-shared : (A : ℤ) (D d : ℕ) (n : ℤ) → 0 < d → NearestTo (A *ℤ pos d) (D * d) n → NearestTo A D n
+nearest-shared A D d n P a = record {
+  close = le-of-mul-le-mul-right (subst (λ (m : ℕ). m ≤ D * d) times (a .close)) P;
+  even = λ e. a .even (times ∙ ap (λ (m : ℕ). m * d) e);
+}
+  where
+    same : offBy (A *ℤ pos d) (D * d) n ≡ offBy A D n * d
+    same = ap natAbs (ring (A ∷ n ∷ pos D ∷ pos d ∷ []) (var 0 ⊗ var 3 ⊝ var 1 ⊗ (var 2 ⊗ var 3)) ((var 0 ⊝ var 1 ⊗ var 2) ⊗ var 3) tt) ∙ natAbs-mul (A -ℤ n *ℤ pos D) (pos d)
+
+    times : 2 * offBy (A *ℤ pos d) (D * d) n ≡ 2 * offBy A D n * d
+    times = ap (λ (m : ℕ). 2 * m) same ∙ sym (mul-assoc 2 (offBy A D n) d)
 
 -- ---- of a float
 

@@ -2,18 +2,22 @@
 -- and the coordinates handed out are the nearest whole numbers of the scaled east and north.
 --
 --   range-decided, finite-decided, turns-decided, rules-decided, few-decided, equal-decided     the tests decide the lines, for every pair of factors
+--   edition-decided, lines-decided                so do those with the edition in front
 --   take-refuses, take-gives, take-runs-refuses, take-runs-gives
 --   take-coordinates, take-refused, take-runs-coordinates, take-runs-refused    the array beside the answer
 --   take-accepted, take-runs-accepted             what is handed out is an accepted patch
 --   take-nearest, take-runs-nearest               its x and y are nearest to the scaled east and north of each shot
 --   taken-accepted, taken-nearest                 so it is for every pair of factors
+--   metres-taken, metres-scaled                   shots in metres are taken the same way by every pair of factors
+--   take-metres, take-runs-metres                 so where all are in metres, the two editions answer the same
+--   take-metres-at, take-runs-metres-at           and where some are, those have the same x and y in both
 --   take-one, take-runs-one                       two permitted answers are the same
 --
--- That no other whole number is nearest: proofs/Nearness (`whole-only`). Source: document 02, E2.
+-- That no other whole number is nearest: proofs/Nearness (`whole-only`). Source: document 02, E2, E13.
 use mathlib.Core.Path.{_≡_, refl, sym, _∙_, ap, subst}
 use mathlib.Core.Logic.{_⊎_, _↔_}
 use mathlib.Core.Bool.{Bool, true, false, not, true≢false, false≢true}
-use mathlib.Core.List.{List, [], _∷_}
+use mathlib.Core.List.{List, [], _∷_, _++_}
 use Prim.Native.Nat.{ℕ, _+_, _*_, _≤_, _<_}
 use native.Mathlib.Omega.{arith}
 use lib.ListN.{length, getD, take, replicate, length-take}
@@ -34,16 +38,18 @@ use Rattle.shots.specs.declared.Handed.{Handed}
 use Rattle.shots.proofs.Promises.{shots-decided}
 use Rattle.shots.proofs.HandedLaws.{handed-refuses, handed-gives, handed-coordinates, handed-refused, handed-kept, handed-front, patch-one}
 use Rattle.intake.specs.Nearest.{Nearest, wholeOf}
-use Rattle.intake.specs.Scaling.{surveyFoot, scaledOf, answersOf, millimetresOf, atOrigin}
-use Rattle.intake.specs.Tests.{farOff, finiteRule, turnRules, countRule, intakeRules}
+use Rattle.intake.specs.Scaling.{footOf, scaledOf, answersOf, millimetresOf, atOrigin, InMetres, AllInMetres}
+use Rattle.intake.specs.Tests.{farOff, finiteRule, rangeRule, turnRules, countRule, intakeRules, editionRule}
 use Rattle.intake.specs.Runs.{shotIn, shotsIn, runsRule}
-use Rattle.intake.specs.Lines.{NotFinite, OutOfRange, turnLines, intakeLines, FewOrMany, Unequal, takeLines, takeRunsLines}
-use Rattle.intake.specs.Calls.{takeOf, takeRunsOf}
+use Rattle.intake.specs.Lines.{NotFinite, OutOfRange, turnLines, intakeLines, Unknown, editionLines, FewOrMany, Unequal, takeLines, takeRunsLines}
+use Rattle.intake.specs.Calls.{takenBy, takenIn, takeOf, takeRunsOf}
 use Rattle.intake.specs.declared.Shot.{Shot}
+use Rattle.intake.specs.declared.Shot.the-variants.{Metres, Feet}
 use Rattle.intake.specs.declared.Foot.{Foot}
+use Rattle.intake.specs.declared.Scaled.{Scaled}
 use Rattle.intake.proofs.Nearness.{whole-nearest, whole-only}
 use Rattle.intake.proofs.TurnLaws.{shot-fine, turns-at, millimetres-length, millimetres-at}
-use Rattle.intake.proofs.CallChains.{count-few, shots-placed}
+use Rattle.intake.proofs.CallChains.{count-few, shots-placed, edition-known}
 
 -- ---- the rules decide the lines
 
@@ -84,11 +90,17 @@ few-decided n = reflects-or (reflects-ltb n shotsLeast) (reflects-ltb shotsMost 
 pub equal-decided : (u : List ℕ) (v : List Float) → Reflects (FewOrMany (length u) ⊎ Unequal u v) (runsRule u v .broken)
 equal-decided u v = reflects-or (few-decided (length u)) (reflects-not (reflects-eqb (length v) (2 * length u)))
 
+pub edition-decided : (e : ℕ) → Reflects (Unknown e) (editionRule e .broken)
+edition-decided e = reflects-not (reflects-or (reflects-eqb e 1) (reflects-eqb e 2))
+
+pub lines-decided : (e : ℕ) (c : Type 0) (r : Rule) (l : List Shot) → r .number ≡ 1 → Reflects c (r .broken) → Decides (editionRule e ∷ intakeRules (footOf e) r l) (editionLines e c l)
+lines-decided e c r l p d = (refl, edition-decided e, rules-decided (footOf e) c r l p d)
+
 -- ---- what is handed out, for every pair of factors: n shots l, with a rule r that keeps their number in range
 
 module _ (foot : Foot) (r : Rule) (l : List Shot) (n : ℕ) (many : length l ≡ n) (kept : r .broken ≡ false → countRule n .broken ≡ false) (m : ℕ) where
   abbrev out : PatchRead
-  out = patchGiven (intakeRules foot r l) n (millimetresOf foot l)
+  out = takenBy foot r l n
 
   module _ (e : out .answer ≡ gives m) where
     unbroken : Unbroken (intakeRules foot r l)
@@ -123,69 +135,112 @@ module _ (foot : Foot) (r : Rule) (l : List Shot) (n : ℕ) (many : length l ≡
           subst (Nearest (scaledOf foot (getD l i atOrigin) .north)) (sym (at (2 * i + 1) (omega arith) ∙ y)) (whole-nearest (scaledOf foot (getD l i atOrigin) .north) (g .0)),
         )
 
+-- the same in an edition, where it is the foot's
+module _ (e : ℕ) (r : Rule) (l : List Shot) (n : ℕ) (many : length l ≡ n) (kept : r .broken ≡ false → countRule n .broken ≡ false) (m : ℕ) (g : takenIn e r l n .answer ≡ gives m) where
+  by-foot : takenBy (footOf e) r l n ≡ takenIn e r l n
+  by-foot = edition-known e r l n (handed-kept (editionRule e ∷ intakeRules (footOf e) r l) n (millimetresOf (footOf e) l) m g .0 .0)
+
+  given : takenBy (footOf e) r l n .answer ≡ gives m
+  given = ap (λ (p : PatchRead). p .answer) by-foot ∙ g
+
+  edition-accepted : refusalOf (take (2 * m) (takenIn e r l n .coordinates)) ≡ 0
+  edition-accepted = ap (λ (p : PatchRead). refusalOf (take (2 * m) (p .coordinates))) (sym by-foot) ∙ taken-accepted (footOf e) r l n many kept m given
+
+  edition-nearest : (i : ℕ) → i < m → {s : Shot} → getD l i atOrigin ≡ s
+      → Nearest (scaledOf (footOf e) s .east) (xOf (takenIn e r l n .coordinates) i) × Nearest (scaledOf (footOf e) s .north) (yOf (takenIn e r l n .coordinates) i)
+  edition-nearest i h q =
+      subst (λ (s : Shot). Nearest (scaledOf (footOf e) s .east) (xOf (takenIn e r l n .coordinates) i) × Nearest (scaledOf (footOf e) s .north) (yOf (takenIn e r l n .coordinates) i)) q
+      (subst (λ (p : PatchRead). Nearest (scaledOf (footOf e) (getD l i atOrigin) .east) (xOf (p .coordinates) i) × Nearest (scaledOf (footOf e) (getD l i atOrigin) .north) (yOf (p .coordinates) i)) by-foot
+      (taken-nearest (footOf e) r l n many kept m given i h))
+
+-- ---- metres, by two pairs of factors
+
+module _ (foot foot′ : Foot) where
+  pub metres-scaled : (s : Shot) → InMetres s → scaledOf foot s ≡ scaledOf foot′ s
+  unfolding scaledOf
+  metres-scaled (Metres e n) h = refl
+  metres-scaled (Feet e n) h = absurd h
+
+  metres-rules : (l : List Shot) → AllInMetres l → turnRules foot l ≡ turnRules foot′ l
+  unfolding scaledOf
+  metres-rules [] h = refl
+  metres-rules (Metres e n ∷ l) h = ap (λ (rs : List Rule). finiteRule foot (Metres e n) ∷ rangeRule foot (Metres e n) ∷ rs) (metres-rules l (h .1))
+  metres-rules (Feet e n ∷ l) h = absurd (h .0)
+
+  metres-places : (l : List Shot) → AllInMetres l → millimetresOf foot l ≡ millimetresOf foot′ l
+  metres-places [] h = refl
+  metres-places (s ∷ l) h = let p = metres-scaled s (h .0) in λ k. wholeOf (p k .east) ∷ wholeOf (p k .north) ∷ metres-places l (h .1) k
+
+  pub metres-taken : (r : Rule) (l : List Shot) (n : ℕ) → AllInMetres l → takenBy foot r l n ≡ takenBy foot′ r l n
+  metres-taken r l n h = λ k. patchGiven (r ∷ (metres-rules l h k ++ shapeRules (metres-places l h k))) n (metres-places l h k)
+
+metres-edition : (r : Rule) (l : List Shot) (n : ℕ) → AllInMetres l → takenIn 1 r l n ≡ takenIn 2 r l n
+metres-edition r l n h = sym (edition-known 1 r l n refl) ∙ metres-taken (footOf 1) (footOf 2) r l n h ∙ edition-known 2 r l n refl
+
+-- the nearest whole number is one
+same-whole : {x y : Float} {j k : ℤ} → x ≡ y → Nearest x j → Nearest y k → j ≡ k
+same-whole {x} {y} {j} {k} e p q = whole-only x j p ∙ ap wholeOf e ∙ sym (whole-only y k q)
+
+same-place : {z z′ : Scaled} {a b c d : ℤ} → z ≡ z′ → Nearest (z .east) a × Nearest (z .north) b → Nearest (z′ .east) c × Nearest (z′ .north) d → (a ≡ c) × (b ≡ d)
+same-place e (p, q) (u, v) = (same-whole (ap (λ (z : Scaled). z .east) e) p u, same-whole (ap (λ (z : Scaled). z .north) e) q v)
+
 -- ---- take
 
-module _ (l : List Shot) (n : ℕ) where
-  decided : Decides (intakeRules surveyFoot (countRule n) (take n l)) (takeLines l n)
-  decided = rules-decided surveyFoot (FewOrMany n) (countRule n) (take n l) refl (few-decided n)
+module _ (e : ℕ) (l : List Shot) (n : ℕ) where
+  abbrev rules : List Rule
+  rules = editionRule e ∷ intakeRules (footOf e) (countRule n) (take n l)
 
-  pub take-refuses : (k : ℕ) → (takeOf l n .answer ≡ refuses k) ↔ First k (takeLines l n)
-  unfolding takeOf
-  take-refuses = handed-refuses (intakeRules surveyFoot (countRule n) (take n l)) n (millimetresOf surveyFoot (take n l)) (takeLines l n) decided
+  abbrev places : List ℤ
+  places = millimetresOf (footOf e) (take n l)
 
-  pub take-gives : (m : ℕ) → (takeOf l n .answer ≡ gives m) ↔ (Clear (takeLines l n) × (n ≡ m))
-  unfolding takeOf
-  take-gives = handed-gives (intakeRules surveyFoot (countRule n) (take n l)) n (millimetresOf surveyFoot (take n l)) (takeLines l n) decided
+  decided : Decides rules (takeLines e l n)
+  decided = lines-decided e (FewOrMany n) (countRule n) (take n l) refl (few-decided n)
 
-  pub take-coordinates : Clear (takeLines l n) → takeOf l n .coordinates ≡ wrote (replicate coordinatesMost (pos 0)) 0 (millimetresOf surveyFoot (take n l))
+  pub take-refuses : (k : ℕ) → (takeOf e l n .answer ≡ refuses k) ↔ First k (takeLines e l n)
   unfolding takeOf
-  take-coordinates = handed-coordinates (intakeRules surveyFoot (countRule n) (take n l)) n (millimetresOf surveyFoot (take n l)) (takeLines l n) decided
+  take-refuses = handed-refuses rules n places (takeLines e l n) decided
 
-  pub take-refused : (k : ℕ) → First k (takeLines l n) → takeOf l n .coordinates ≡ replicate coordinatesMost (pos 0)
+  pub take-gives : (m : ℕ) → (takeOf e l n .answer ≡ gives m) ↔ (Clear (takeLines e l n) × (n ≡ m))
   unfolding takeOf
-  take-refused = handed-refused (intakeRules surveyFoot (countRule n) (take n l)) n (millimetresOf surveyFoot (take n l)) (takeLines l n) decided
+  take-gives = handed-gives rules n places (takeLines e l n) decided
+
+  pub take-coordinates : Clear (takeLines e l n) → takeOf e l n .coordinates ≡ wrote (replicate coordinatesMost (pos 0)) 0 (millimetresOf (footOf e) (take n l))
+  unfolding takeOf
+  take-coordinates = handed-coordinates rules n places (takeLines e l n) decided
+
+  pub take-refused : (k : ℕ) → First k (takeLines e l n) → takeOf e l n .coordinates ≡ replicate coordinatesMost (pos 0)
+  unfolding takeOf
+  take-refused = handed-refused rules n places (takeLines e l n) decided
 
   -- of an array of ten
-  module _ (wide : length l ≡ shotsMost) (m : ℕ) (e : takeOf l n .answer ≡ gives m) where
+  module _ (wide : length l ≡ shotsMost) (m : ℕ) (g : takeOf e l n .answer ≡ gives m) where
     few : n ≤ shotsMost
     unfolding takeOf
-    few = count-few n (handed-kept (intakeRules surveyFoot (countRule n) (take n l)) n (millimetresOf surveyFoot (take n l)) m e .0 .0)
+    few = count-few n (handed-kept rules n places m g .0 .1 .0)
 
     many : length (take n l) ≡ n
     many = omega (arith, length-take n l, wide, few)
 
-    pub take-accepted : refusalOf (take (2 * m) (takeOf l n .coordinates)) ≡ 0
+    pub take-accepted : refusalOf (take (2 * m) (takeOf e l n .coordinates)) ≡ 0
     unfolding takeOf
-    take-accepted = taken-accepted surveyFoot (countRule n) (take n l) n many (λ h. h) m e
+    take-accepted = edition-accepted e (countRule n) (take n l) n many (λ h. h) m g
 
-    pub take-nearest : (i : ℕ) → i < m → Nearest (scaledOf surveyFoot (getD l i atOrigin) .east) (xOf (takeOf l n .coordinates) i) × Nearest (scaledOf surveyFoot (getD l i atOrigin) .north) (yOf (takeOf l n .coordinates) i)
+    pub take-nearest : (i : ℕ) → i < m → Nearest (scaledOf (footOf e) (getD l i atOrigin) .east) (xOf (takeOf e l n .coordinates) i) × Nearest (scaledOf (footOf e) (getD l i atOrigin) .north) (yOf (takeOf e l n .coordinates) i)
     unfolding takeOf
-    take-nearest i h =
-        subst (λ (s : Shot). Nearest (scaledOf surveyFoot s .east) (xOf (takeOf l n .coordinates) i) × Nearest (scaledOf surveyFoot s .north) (yOf (takeOf l n .coordinates) i))
-        (getD-take n l i atOrigin (omega (arith, h, take-gives m .0 e .1))) (taken-nearest surveyFoot (countRule n) (take n l) n many (λ h. h) m e i h)
+    take-nearest i h = edition-nearest e (countRule n) (take n l) n many (λ h. h) m g i h (getD-take n l i atOrigin (omega (arith, h, take-gives m .0 g .1)))
+
+module _ (l : List Shot) (n : ℕ) where
+  pub take-metres : AllInMetres (take n l) → takeOf 1 l n ≡ takeOf 2 l n
+  unfolding takeOf
+  take-metres = metres-edition (countRule n) (take n l) n
+
+  pub take-metres-at : length l ≡ shotsMost → (m : ℕ) → takeOf 1 l n .answer ≡ gives m → takeOf 2 l n .answer ≡ gives m → (i : ℕ) → i < m → InMetres (getD l i atOrigin)
+      → (xOf (takeOf 1 l n .coordinates) i ≡ xOf (takeOf 2 l n .coordinates) i) × (yOf (takeOf 1 l n .coordinates) i ≡ yOf (takeOf 2 l n .coordinates) i)
+  take-metres-at wide m f g i h s = same-place (metres-scaled (footOf 1) (footOf 2) (getD l i atOrigin) s) (take-nearest 1 l n wide m f i h) (take-nearest 2 l n wide m g i h)
 
 -- ---- take_runs
 
 module _ (u : List ℕ) (v : List Float) where
-  runs-decided : Decides (intakeRules surveyFoot (runsRule u v) (shotsIn u v)) (takeRunsLines u v)
-  runs-decided = rules-decided surveyFoot (FewOrMany (length u) ⊎ Unequal u v) (runsRule u v) (shotsIn u v) refl (equal-decided u v)
-
-  pub take-runs-refuses : (k : ℕ) → (takeRunsOf u v .answer ≡ refuses k) ↔ First k (takeRunsLines u v)
-  unfolding takeRunsOf
-  take-runs-refuses = handed-refuses (intakeRules surveyFoot (runsRule u v) (shotsIn u v)) (length u) (millimetresOf surveyFoot (shotsIn u v)) (takeRunsLines u v) runs-decided
-
-  pub take-runs-gives : (m : ℕ) → (takeRunsOf u v .answer ≡ gives m) ↔ (Clear (takeRunsLines u v) × (length u ≡ m))
-  unfolding takeRunsOf
-  take-runs-gives = handed-gives (intakeRules surveyFoot (runsRule u v) (shotsIn u v)) (length u) (millimetresOf surveyFoot (shotsIn u v)) (takeRunsLines u v) runs-decided
-
-  pub take-runs-coordinates : Clear (takeRunsLines u v) → takeRunsOf u v .coordinates ≡ wrote (replicate coordinatesMost (pos 0)) 0 (millimetresOf surveyFoot (shotsIn u v))
-  unfolding takeRunsOf
-  take-runs-coordinates = handed-coordinates (intakeRules surveyFoot (runsRule u v) (shotsIn u v)) (length u) (millimetresOf surveyFoot (shotsIn u v)) (takeRunsLines u v) runs-decided
-
-  pub take-runs-refused : (k : ℕ) → First k (takeRunsLines u v) → takeRunsOf u v .coordinates ≡ replicate coordinatesMost (pos 0)
-  unfolding takeRunsOf
-  take-runs-refused = handed-refused (intakeRules surveyFoot (runsRule u v) (shotsIn u v)) (length u) (millimetresOf surveyFoot (shotsIn u v)) (takeRunsLines u v) runs-decided
-
   runs-many : length (shotsIn u v) ≡ length u
   unfolding shotsIn
   runs-many = length-tabulate (shotIn u v) (length u)
@@ -193,21 +248,56 @@ module _ (u : List ℕ) (v : List Float) where
   runs-kept : runsRule u v .broken ≡ false → countRule (length u) .broken ≡ false
   runs-kept h = or-parts (countRule (length u) .broken) _ h .0
 
-  module _ (m : ℕ) (e : takeRunsOf u v .answer ≡ gives m) where
-    pub take-runs-accepted : refusalOf (take (2 * m) (takeRunsOf u v .coordinates)) ≡ 0
-    unfolding takeRunsOf
-    take-runs-accepted = taken-accepted surveyFoot (runsRule u v) (shotsIn u v) (length u) runs-many runs-kept m e
+module _ (e : ℕ) (u : List ℕ) (v : List Float) where
+  abbrev runs-rules : List Rule
+  runs-rules = editionRule e ∷ intakeRules (footOf e) (runsRule u v) (shotsIn u v)
 
-    pub take-runs-nearest : (i : ℕ) → i < m → Nearest (scaledOf surveyFoot (shotIn u v i) .east) (xOf (takeRunsOf u v .coordinates) i) × Nearest (scaledOf surveyFoot (shotIn u v i) .north) (yOf (takeRunsOf u v .coordinates) i)
+  abbrev runs-places : List ℤ
+  runs-places = millimetresOf (footOf e) (shotsIn u v)
+
+  runs-decided : Decides runs-rules (takeRunsLines e u v)
+  runs-decided = lines-decided e (FewOrMany (length u) ⊎ Unequal u v) (runsRule u v) (shotsIn u v) refl (equal-decided u v)
+
+  pub take-runs-refuses : (k : ℕ) → (takeRunsOf e u v .answer ≡ refuses k) ↔ First k (takeRunsLines e u v)
+  unfolding takeRunsOf
+  take-runs-refuses = handed-refuses runs-rules (length u) runs-places (takeRunsLines e u v) runs-decided
+
+  pub take-runs-gives : (m : ℕ) → (takeRunsOf e u v .answer ≡ gives m) ↔ (Clear (takeRunsLines e u v) × (length u ≡ m))
+  unfolding takeRunsOf
+  take-runs-gives = handed-gives runs-rules (length u) runs-places (takeRunsLines e u v) runs-decided
+
+  pub take-runs-coordinates : Clear (takeRunsLines e u v) → takeRunsOf e u v .coordinates ≡ wrote (replicate coordinatesMost (pos 0)) 0 (millimetresOf (footOf e) (shotsIn u v))
+  unfolding takeRunsOf
+  take-runs-coordinates = handed-coordinates runs-rules (length u) runs-places (takeRunsLines e u v) runs-decided
+
+  pub take-runs-refused : (k : ℕ) → First k (takeRunsLines e u v) → takeRunsOf e u v .coordinates ≡ replicate coordinatesMost (pos 0)
+  unfolding takeRunsOf
+  take-runs-refused = handed-refused runs-rules (length u) runs-places (takeRunsLines e u v) runs-decided
+
+  module _ (m : ℕ) (g : takeRunsOf e u v .answer ≡ gives m) where
+    pub take-runs-accepted : refusalOf (take (2 * m) (takeRunsOf e u v .coordinates)) ≡ 0
+    unfolding takeRunsOf
+    take-runs-accepted = edition-accepted e (runsRule u v) (shotsIn u v) (length u) (runs-many u v) (runs-kept u v) m g
+
+    pub take-runs-nearest : (i : ℕ) → i < m → Nearest (scaledOf (footOf e) (shotIn u v i) .east) (xOf (takeRunsOf e u v .coordinates) i) × Nearest (scaledOf (footOf e) (shotIn u v i) .north) (yOf (takeRunsOf e u v .coordinates) i)
     unfolding takeRunsOf shotsIn
     take-runs-nearest i h =
-        subst (λ (s : Shot). Nearest (scaledOf surveyFoot s .east) (xOf (takeRunsOf u v .coordinates) i) × Nearest (scaledOf surveyFoot s .north) (yOf (takeRunsOf u v .coordinates) i))
-        (getD-tabulate (shotIn u v) (length u) i atOrigin (omega (arith, h, take-runs-gives m .0 e .1))) (taken-nearest surveyFoot (runsRule u v) (shotsIn u v) (length u) runs-many runs-kept m e i h)
+        edition-nearest e (runsRule u v) (shotsIn u v) (length u) (runs-many u v) (runs-kept u v) m g i h
+        (getD-tabulate (shotIn u v) (length u) i atOrigin (omega (arith, h, take-runs-gives m .0 g .1)))
+
+module _ (u : List ℕ) (v : List Float) where
+  pub take-runs-metres : AllInMetres (shotsIn u v) → takeRunsOf 1 u v ≡ takeRunsOf 2 u v
+  unfolding takeRunsOf
+  take-runs-metres = metres-edition (runsRule u v) (shotsIn u v) (length u)
+
+  pub take-runs-metres-at : (m : ℕ) → takeRunsOf 1 u v .answer ≡ gives m → takeRunsOf 2 u v .answer ≡ gives m → (i : ℕ) → i < m → InMetres (shotIn u v i)
+      → (xOf (takeRunsOf 1 u v .coordinates) i ≡ xOf (takeRunsOf 2 u v .coordinates) i) × (yOf (takeRunsOf 1 u v .coordinates) i ≡ yOf (takeRunsOf 2 u v .coordinates) i)
+  take-runs-metres-at m f g i h s = same-place (metres-scaled (footOf 1) (footOf 2) (shotIn u v i) s) (take-runs-nearest 1 u v m f i h) (take-runs-nearest 2 u v m g i h)
 
 -- ---- one answer
 
-pub take-one : (l : List Shot) (n : ℕ) (r r′ : Handed) → readPatch r ≡ takeOf l n → readPatch r′ ≡ takeOf l n → r ≡ r′
-take-one l n r r′ = patch-one
+pub take-one : (e : ℕ) (l : List Shot) (n : ℕ) (r r′ : Handed) → readPatch r ≡ takeOf e l n → readPatch r′ ≡ takeOf e l n → r ≡ r′
+take-one e l n r r′ = patch-one
 
-pub take-runs-one : (u : List ℕ) (v : List Float) (r r′ : Handed) → readPatch r ≡ takeRunsOf u v → readPatch r′ ≡ takeRunsOf u v → r ≡ r′
-take-runs-one u v r r′ = patch-one
+pub take-runs-one : (e : ℕ) (u : List ℕ) (v : List Float) (r r′ : Handed) → readPatch r ≡ takeRunsOf e u v → readPatch r′ ≡ takeRunsOf e u v → r ≡ r′
+take-runs-one e u v r r′ = patch-one

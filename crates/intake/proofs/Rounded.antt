@@ -3,14 +3,14 @@
 --   once-one       there is one value that an exact value is rounded to so
 --   times-once     the product
 --   over-once      the quotient by a finite float
---   metres-once    so the one operation on metres is rounded once
---   feet-first, feet-then    so are the two on feet, the second over the answer of the first
---   float-exact    the factors are the whole numbers that they are written as
+--   metres-once    so the one operation on metres is rounded once, by the whole number 1000
+--   feet-once      so are the two on feet, by every pair of whole numbers that a float has exactly
+--   edition-1-once, edition-2-once    and so by those of the two editions
 use mathlib.Core.Path.{_≡_, refl, sym, _∙_, ap, subst}
 use mathlib.Core.Logic.{_⊎_, inl, inr}
 use mathlib.Core.Bool.{Bool, true, false, cond, false≢true}
 use Prim.Native.Nat.{ℕ, suc, _+_, _-_, _*_, _/_, _^_, _≤_, _<_}
-use native.Mathlib.Nat.{le-trans, le-of-eq, mul-one, mul-left-comm, mul-le-mul-left, mul-pos, le-div-iff-mul-le, div-lt-iff-lt-mul, div-div-eq-div-mul}
+use native.Mathlib.Nat.{le-trans, le-of-eq, mul-one, mul-assoc, mul-left-comm, mul-right-comm, mul-le-mul-left, le-of-mul-le-mul-right, lt-of-mul-lt-mul-right, mul-pos, le-div-iff-mul-le, div-lt-iff-lt-mul, div-div-eq-div-mul}
 use native.Mathlib.Omega.{arith}
 use native.Mathlib.Decide.{decLt}
 use borrow.Author.Tests.{ltb-true, eqb-false}
@@ -28,11 +28,10 @@ use lib.Ieee.Order.{drop, kept}
 use lib.Ieee.Positive.{num, den}
 use lib.Ieee.Scale.{finite, grid, overflow}
 use Rattle.intake.specs.Nearest.{isNegative, NearestTo}
-use Rattle.intake.specs.Scaling.{float, ofMetres, multiplied, ofFeet}
-use Rattle.intake.specs.Once.{Once}
-use Rattle.intake.specs.declared.Foot.{Foot}
+use Rattle.intake.specs.Scaling.{float, factors, footOf, ofMetres, multiplied, ofFeet}
+use Rattle.intake.specs.Once.{Once, ByFactors}
 use Rattle.intake.proofs.Finiteness.{neither, div-first}
-use Rattle.intake.proofs.Nearness.{closest-nearest, nearest-one}
+use Rattle.intake.proofs.Nearness.{closest-nearest, nearest-one, nearest-shared}
 
 -- what is not an infinity
 under : (s : Bool) (q k : ℕ) → finite (units binary64 s q k) ≡ true → q * 2 ^ k < overflow binary64
@@ -134,30 +133,74 @@ over-once (fin s m e) (fin t n d) g f = go (eqb n 0) (eqb-false n 0) f
     go true h f = neither (eqb m 0) (unlike s t) (subst T (sym f) tt)
     go false h f = rounded (unlike s t) (m * up e * down d) (n * up d * down e) (mul-pos (mul-pos (some (h refl)) (up-pos d)) (down-pos e)) f
 
+-- ---- by whole numbers
+
+-- what the two numbers of the exact value share goes
+shared : {x : Float} {s : Bool} (a c d : ℕ) → 0 < d → Once x s (a * d) (c * d) → Once x s a c
+shared {x} {s} a c d P o = record {
+  digits = o .digits;
+  step = o .step;
+  value = o .value;
+  near = nearest-shared (pos (a * 2 ^ 1074)) (c * 2 ^ o .step) d (pos (o .digits)) P (subst (λ (n : ℕ). NearestTo (pos (a * 2 ^ 1074 * d)) n (pos (o .digits))) under-d (subst (λ (n : ℕ). NearestTo (pos n) (c * d * 2 ^ o .step) (pos (o .digits))) over-d (o .near)));
+  below = lt-of-mul-lt-mul-right d (subst (λ (n : ℕ). n < 2 ^ 53 * (c * 2 ^ o .step) * d) over-d (subst (λ (n : ℕ). a * d * 2 ^ 1074 < n) (steps (2 ^ 53)) (o .below)));
+  least = go (o .least);
+}
+  where
+    over-d : a * d * 2 ^ 1074 ≡ a * 2 ^ 1074 * d
+    over-d = mul-right-comm a d (2 ^ 1074)
+
+    under-d : c * d * 2 ^ o .step ≡ c * 2 ^ o .step * d
+    under-d = mul-right-comm c d (2 ^ o .step)
+
+    steps : (n : ℕ) → n * (c * d * 2 ^ o .step) ≡ n * (c * 2 ^ o .step) * d
+    steps n = ap (λ (m : ℕ). n * m) under-d ∙ sym (mul-assoc n (c * 2 ^ o .step) d)
+
+    go : (o .step ≡ 0) ⊎ (2 ^ 52 * (c * d * 2 ^ o .step) ≤ a * d * 2 ^ 1074) → (o .step ≡ 0) ⊎ (2 ^ 52 * (c * 2 ^ o .step) ≤ a * 2 ^ 1074)
+    go (inl e) = inl e
+    go (inr h) = inr (le-of-mul-le-mul-right (subst (λ (n : ℕ). 2 ^ 52 * (c * 2 ^ o .step) * d ≤ n) over-d (subst (λ (n : ℕ). n ≤ a * d * 2 ^ 1074) (steps (2 ^ 52)) h)) P)
+
+-- by a number that is not negative
+plain : (s t : Bool) → t ≡ false → unlike s t ≡ s
+plain true t e = ap (λ (b : Bool). unlike true b) e
+plain false t e = ap (λ (b : Bool). unlike false b) e
+
+module _ (x : Float) (k : ℕ) where
+  times-number : (y : Float) → HasValue y false k 1 → finite (mul binary64 x y) ≡ true → Once (mul binary64 x y) (isNegative x) (num x * k) (den x)
+  times-number nan v f = absurd v
+  times-number (inf t) v f = absurd v
+  times-number (fin t m e) (p, q) f =
+      shared (num x * k) (den x) (down e) (down-pos e)
+      (subst (λ (n : ℕ). Once (mul binary64 x (fin t m e)) (isNegative x) n (den x * down e)) (ap (λ (n : ℕ). num x * n) (sym (mul-one (m * up e)) ∙ q) ∙ sym (mul-assoc (num x) k (down e)))
+      (subst (λ (s : Bool). Once (mul binary64 x (fin t m e)) s (num x * (m * up e)) (den x * down e)) (plain (isNegative x) t p) (times-once x (fin t m e) f)))
+
+  over-number : (y : Float) → HasValue y false k 1 → finite (div binary64 x y) ≡ true → Once (div binary64 x y) (isNegative x) (num x) (k * den x)
+  over-number nan v f = absurd v
+  over-number (inf t) v f = absurd v
+  over-number (fin t m e) (p, q) f =
+      shared (num x) (k * den x) (down e) (down-pos e)
+      (subst (λ (n : ℕ). Once (div binary64 x (fin t m e)) (isNegative x) (num x * down e) n) (ap (λ (n : ℕ). n * den x) (sym (mul-one (m * up e)) ∙ q) ∙ mul-right-comm k (down e) (den x))
+      (subst (λ (s : Bool). Once (div binary64 x (fin t m e)) s (num x * down e) (m * up e * den x)) (plain (isNegative x) t p) (over-once x (fin t m e) refl f)))
+
 -- ---- a shot
 
-written : float 1000 ≡ fin false 125 (pos 3)
-unfolding float ofInt round units odd size span climb trailingZeros
-written = refl
-
-pub float-exact : (k : ℕ) → k ≤ 2 ^ 53 → HasValue (float k) false k 1
+float-exact : (k : ℕ) → k ≤ 2 ^ 53 → HasValue (float k) false k 1
 unfolding float ofInt
 float-exact k h = round-whole binary64 false k h
 
 pub metres-once : (x : Float) → finite (ofMetres x) ≡ true → Once (ofMetres x) (isNegative x) (num x * 1000) (den x)
-metres-once x f =
-    subst (λ (d : ℕ). Once (ofMetres x) (isNegative x) (num x * 1000) d) (mul-one (den x))
-    (subst (λ (s : Bool). Once (ofMetres x) s (num x * 1000) (den x * 1)) (with-plus (isNegative x))
-    (subst (λ (y : Float). Once (ofMetres x) (unlike (isNegative x) (isNegative y)) (num x * num y) (den x * den y)) written (times-once x (float 1000) f)))
-  where
-    with-plus : (s : Bool) → unlike s false ≡ s
-    with-plus true = refl
-    with-plus false = refl
+metres-once x f = times-number x 1000 (float 1000) (float-exact 1000 (omega arith)) f
 
-module _ (foot : Foot) (x : Float) (f : finite (ofFeet foot x) ≡ true) where
-  pub feet-first : Once (multiplied foot x) (unlike (isNegative x) (isNegative (foot .times))) (num x * num (foot .times)) (den x * den (foot .times))
-  feet-first = times-once x (foot .times) (is-true (finite (multiplied foot x)) (div-first binary64 (multiplied foot x) (foot .over) (subst T (sym f) tt)))
+pub feet-once : (t o : ℕ) → t ≤ 2 ^ 53 → o ≤ 2 ^ 53 → (x : Float) → finite (ofFeet (factors t o) x) ≡ true → ByFactors t o x (ofFeet (factors t o) x)
+feet-once t o h g x f = record {
+  product = multiplied (factors t o) x;
+  first = times-number x t (float t) (float-exact t h) (is-true (finite (multiplied (factors t o) x)) (div-first binary64 (multiplied (factors t o) x) (float o) (subst T (sym f) tt)));
+  then = over-number (multiplied (factors t o) x) o (float o) (float-exact o g) f;
+}
 
-  pub feet-then : finite (foot .over) ≡ true
-      → Once (ofFeet foot x) (unlike (isNegative (multiplied foot x)) (isNegative (foot .over))) (num (multiplied foot x) * den (foot .over)) (num (foot .over) * den (multiplied foot x))
-  feet-then g = over-once (multiplied foot x) (foot .over) g f
+pub edition-1-once : (x : Float) → finite (ofFeet (footOf 1) x) ≡ true → ByFactors 1200000 3937 x (ofFeet (footOf 1) x)
+unfolding footOf
+edition-1-once = feet-once 1200000 3937 (omega arith) (omega arith)
+
+pub edition-2-once : (x : Float) → finite (ofFeet (footOf 2) x) ≡ true → ByFactors 3048 10 x (ofFeet (footOf 2) x)
+unfolding footOf
+edition-2-once = feet-once 3048 10 (omega arith) (omega arith)

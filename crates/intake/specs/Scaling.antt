@@ -1,18 +1,23 @@
 -- What is made of a shot from a controller: the factors of its unit, each operation rounded once as `mul` and `div` of the language's f64 are, and then the nearest whole numbers.
 --
 --   float k              a whole number as an f64
---   surveyFoot           the factors of the US survey foot: times 1200000, then over 3937
+--   factors t o          times t, then over o
+--   surveyFoot           the factors of the US survey foot
+--   internationalFoot    those of the international foot, 0.3048 m
+--   footOf e             the foot of an edition: 1 the US survey foot, else the international foot; an edition that is neither 1 nor 2 is refused (17)
 --   scaledOf foot s      a shot's east and north after the factors of its unit, in millimetres
 --   answersOf foot s     its east, its north, and the answer of every operation on them
 --   millimetresOf foot l the coordinates of the shots l, east then north of each
 --   atOrigin             the shot at 0, 0
+--   InMetres s, AllInMetres l    a shot is given in metres, each of l is
 --
--- Source: document 02, E2.
+-- Source: document 02, E2, E13.
+use mathlib.Core.Bool.{false, cond}
 use mathlib.Core.List.{List, [], _∷_}
 use Prim.Native.Nat.{ℕ}
+use lib.Dec.{eqb}
 use lib.IntN.{ℤ, pos}
 use lib.Ieee.{Float, fin, binary64, ofInt, mul, div}
-use mathlib.Core.Bool.{false}
 use Rattle.intake.specs.Nearest.{wholeOf}
 use Rattle.intake.specs.declared.Shot.{Shot}
 use Rattle.intake.specs.declared.Shot.the-variants.{Metres, Feet}
@@ -22,8 +27,17 @@ use Rattle.intake.specs.declared.Scaled.{Scaled}
 unfoldable pub float : ℕ → Float
 float k = ofInt binary64 (pos k)
 
-unfoldable pub surveyFoot : Foot
-surveyFoot = record { times = float 1200000; over = float 3937 }
+abbrev pub factors : ℕ → ℕ → Foot
+factors t o = record { times = float t; over = float o }
+
+abbrev pub surveyFoot : Foot
+surveyFoot = factors 1200000 3937
+
+abbrev pub internationalFoot : Foot
+internationalFoot = factors 3048 10
+
+unfoldable pub footOf : ℕ → Foot
+footOf e = cond (eqb e 1) surveyFoot internationalFoot
 
 -- metres to millimetres, in one operation
 abbrev pub ofMetres : Float → Float
@@ -50,3 +64,11 @@ millimetresOf foot (s ∷ l) = wholeOf (scaledOf foot s .east) ∷ wholeOf (scal
 
 abbrev pub atOrigin : Shot
 atOrigin = Metres (fin false 0 (pos 0)) (fin false 0 (pos 0))
+
+abbrev pub InMetres : Shot → Type 0
+InMetres (Metres e n) = Unit {0}
+InMetres (Feet e n) = ⊥
+
+abbrev pub AllInMetres : List Shot → Type 0
+AllInMetres [] = Unit {0}
+AllInMetres (s ∷ l) = InMetres s × AllInMetres l

@@ -8,12 +8,14 @@
 --   turnRules foot l     those two rules of each shot of l in turn
 --   countRule n          1: not 3 to 10 shots
 --   intakeRules foot r l the rule r of the number of shots; then each shot's in turn; then 3 and 4, on the whole numbers
+--   editionRule e        17: an edition other than 1 or 2
+--   frontRules e n       the two rules that need no shot: 17, then 1
 --
--- Source: document 02, E2.
+-- Source: document 02, E2, E13.
 use mathlib.Core.Bool.{Bool, not, cond, _||_}
 use mathlib.Core.List.{List, [], _∷_, _++_}
 use Prim.Native.Nat.{ℕ}
-use lib.Dec.{ltb}
+use lib.Dec.{eqb, ltb}
 use lib.IntN.{natAbs}
 use lib.Ieee.{Float}
 use lib.Ieee.Scale.{finite}
@@ -50,3 +52,9 @@ countRule n = record { number = 1; broken = ltb n shotsLeast || ltb shotsMost n 
 
 abbrev pub intakeRules : Foot → Rule → List Shot → List Rule
 intakeRules foot r l = r ∷ (turnRules foot l ++ shapeRules (millimetresOf foot l))
+
+abbrev pub editionRule : ℕ → Rule
+editionRule e = record { number = 17; broken = not (eqb e 1 || eqb e 2) }
+
+abbrev pub frontRules : ℕ → ℕ → List Rule
+frontRules e n = editionRule e ∷ countRule n ∷ []

@@ -1,18 +1,20 @@
 // Intake: shots as a controller gives them, metres or feet, become the coordinates of a patch, in whole millimetres.
 //
-//   take         the shots of an array, the first so many                      1, each shot's 16 or 2, 3 4
-//   take_runs    the shots of two lent runs, of units and of east and north    1, each shot's 16 or 2, 3 4
+//   take         the shots of an array, the first so many                      17, 1, each shot's 16 or 2, 3 4
+//   take_runs    the shots of two lent runs, of units and of east and north    17, 1, each shot's 16 or 2, 3 4
 //
+// The edition says which foot is meant: 1 the US survey foot, 2 the international foot; metres do not depend on it.
 // Every call takes every input; specs/Calls.antt says what it answers, specs/Scaling.antt which operations are made, specs/Nearest.antt which whole number is taken,
 // specs/Lines.antt when a call refuses.
 ghost use mathlib.Core.Path.{_≡_};
 ghost use lib.IntN.{pos};
-ghost use lib.ListN.{replicate};
-ghost use Rattle.algebra.specs.Answer.{refuses};
+ghost use mathlib.Core.Bool.{false};
+ghost use lib.ListN.{take, replicate};
+ghost use Rattle.algebra.specs.Answer.{refuses, refusal};
 ghost use Rattle.shots.specs.Sizes.{coordinatesMost};
 ghost use Rattle.shots.specs.Calls.{readPatch};
-ghost use Rattle.intake.specs.Tests.{countRule};
-ghost use Rattle.intake.specs.Calls.{takeOf, takeRunsOf};
+ghost use Rattle.intake.specs.Tests.{countRule, frontRules};
+ghost use Rattle.intake.specs.Calls.{takenBy, takeOf, takeRunsOf};
 use shots::COORDINATES_MOST;
 use shots::Handed;
 use shots::Patched;
@@ -61,13 +63,26 @@ fn miscounted(count: usize) -> bool
     SHOTS_MOST < count
 }
 
-pub fn take(shots: [Shot; SHOTS_MOST], count: usize) -> Handed
-    ensures { λ r. ⌜ readPatch r ≡ takeOf shots count ⌝ }
+// The number that refuses an edition or a number of shots, 17 or 1, or 0.
+fn unfit(edition: usize, count: usize) -> u8
+    ensures { λ r. ⌜ r ≡ refusal (frontRules edition count) ⌝ }
 {
-    if miscounted(count) {
-        return refused(1);
+    let no_edition = scaling::is_unknown(edition);
+    let no_patch = miscounted(count);
+    if no_edition {
+        return 17;
     }
-    let foot = scaling::survey_foot();
+    if no_patch {
+        return 1;
+    }
+    0
+}
+
+// The shots by any foot's factors.
+fn taken(foot: Foot, shots: [Shot; SHOTS_MOST], count: usize) -> Handed
+    requires { ⌜ countRule count .broken ≡ false ⌝ }
+    ensures { λ r. ⌜ readPatch r ≡ takenBy foot (countRule count) (take count shots) count ⌝ }
+{
     let number = turns::refusal(foot, shots, count);
     if number != 0 {
         return refused(number);
@@ -83,15 +98,30 @@ pub fn take(shots: [Shot; SHOTS_MOST], count: usize) -> Handed
     }
 }
 
-pub fn take_runs(units: &[u8], values: &[f64]) -> Handed
-    ensures { λ r. ⌜ readPatch r ≡ takeRunsOf (now (units .entry)) (now (values .entry)) ⌝ }
+pub fn take(edition: usize, shots: [Shot; SHOTS_MOST], count: usize) -> Handed
+    ensures { λ r. ⌜ readPatch r ≡ takeOf edition shots count ⌝ }
+{
+    let number = unfit(edition, count);
+    if number != 0 {
+        return refused(number);
+    }
+    taken(scaling::foot_of(edition), shots, count)
+}
+
+pub fn take_runs(edition: usize, units: &[u8], values: &[f64]) -> Handed
+    ensures { λ r. ⌜ readPatch r ≡ takeRunsOf edition (now (units .entry)) (now (values .entry)) ⌝ }
 {
     let count = units.len();
-    if miscounted(count) {
-        return refused(1);
+    let number = unfit(edition, count);
+    if number != 0 {
+        return refused(number);
     }
     if values.len() != 2 * count {
         return refused(1);
     }
-    take(runs::gathered(units, values), count)
+    taken(
+        scaling::foot_of(edition),
+        runs::gathered(units, values),
+        count,
+    )
 }

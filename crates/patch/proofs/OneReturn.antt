@@ -113,7 +113,7 @@ pub patch-read-patch-one : (b : List ℕ) (s : List ℤ) (c : ℕ) {r r′ v v�
     → (r′ ≡ numberOf (readPatchOf b .answer)) × (u′ ≡ besideAt s (readPatchOf b .answer) (readPatchOf b .coordinates)) × (v′ ≡ leftAt c (readPatchOf b .answer)) → (r ≡ r′) × (u ≡ u′) × (v ≡ v′)
 patch-read-patch-one b s c = ends-3
 
-pub patch-take-runs-one : (b : List ℕ) (f : List Float) (s : List ℤ) (c : ℕ) {r r′ v v′ : ℕ} {u u′ : List ℤ}
-    → (r ≡ numberOf (takeRunsOf b f .answer)) × (u ≡ besideAt s (takeRunsOf b f .answer) (takeRunsOf b f .coordinates)) × (v ≡ leftAt c (takeRunsOf b f .answer))
-    → (r′ ≡ numberOf (takeRunsOf b f .answer)) × (u′ ≡ besideAt s (takeRunsOf b f .answer) (takeRunsOf b f .coordinates)) × (v′ ≡ leftAt c (takeRunsOf b f .answer)) → (r ≡ r′) × (u ≡ u′) × (v ≡ v′)
-patch-take-runs-one b f s c = ends-3
+pub patch-take-runs-one : (e : ℕ) (b : List ℕ) (f : List Float) (s : List ℤ) (c : ℕ) {r r′ v v′ : ℕ} {u u′ : List ℤ}
+    → (r ≡ numberOf (takeRunsOf e b f .answer)) × (u ≡ besideAt s (takeRunsOf e b f .answer) (takeRunsOf e b f .coordinates)) × (v ≡ leftAt c (takeRunsOf e b f .answer))
+    → (r′ ≡ numberOf (takeRunsOf e b f .answer)) × (u′ ≡ besideAt s (takeRunsOf e b f .answer) (takeRunsOf e b f .coordinates)) × (v′ ≡ leftAt c (takeRunsOf e b f .answer)) → (r ≡ r′) × (u ≡ u′) × (v ≡ v′)
+patch-take-runs-one e b f s c = ends-3

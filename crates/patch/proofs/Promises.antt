@@ -26,8 +26,8 @@ use Rattle.shots.specs.Tests.{shapeRules, shotRules, placeRules}
 use Rattle.shots.specs.Calls.{acceptOf, shotsRule, orientationOf, doubleAreaOf, pairRule, cocircuitOf, borderCallOf}
 use Rattle.shots.proofs.Chains.{shots-numbered}
 use Rattle.outline.specs.Calls.{roomsRule, chainsOf}
-use Rattle.intake.specs.Scaling.{surveyFoot, millimetresOf}
-use Rattle.intake.specs.Tests.{turnRules}
+use Rattle.intake.specs.Scaling.{footOf, millimetresOf}
+use Rattle.intake.specs.Tests.{turnRules, editionRule}
 use Rattle.intake.specs.Runs.{shotsIn, runsRule}
 use Rattle.intake.specs.Calls.{takeRunsOf}
 use Rattle.intake.proofs.TurnLaws.{turns-numbered}
@@ -205,9 +205,10 @@ read-patch-apart b =
     let rs = placeRules (coordinatesOf b) in
     chain-apart (patchRules b) (getD b 3 0) (numbered-append (patchFrame b) rs (patch-numbered b) (shots-numbered (coordinatesOf b) .1))
 
-pub take-runs-apart : (u : List ℕ) (v : List Float) → Apart (takeRunsOf u v .answer)
+pub take-runs-apart : (e : ℕ) (u : List ℕ) (v : List Float) → Apart (takeRunsOf e u v .answer)
 unfolding takeRunsOf
-take-runs-apart u v =
+take-runs-apart e u v =
     let l = shotsIn u v in
-    let m = millimetresOf surveyFoot l in
-    chain-apart (runsRule u v ∷ (turnRules surveyFoot l ++ shapeRules m)) (length u) (omega arith, numbered-append (turnRules surveyFoot l) (shapeRules m) (turns-numbered surveyFoot l) (shots-numbered m .1 .1))
+    let m = millimetresOf (footOf e) l in
+    let rs = turnRules (footOf e) l in
+    chain-apart (editionRule e ∷ runsRule u v ∷ (rs ++ shapeRules m)) (length u) (omega arith, (omega arith, numbered-append rs (shapeRules m) (turns-numbered (footOf e) l) (shots-numbered m .1 .1)))

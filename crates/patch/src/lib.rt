@@ -8,7 +8,7 @@
 //   patch_cocircuit        its sign, for a pair with every shot              1-4, 7
 //   patch_border           the number of sides                               1-4
 //   patch_chains           the corners, as a south and a north chain         1-4, 11
-//   patch_take_runs        the shots of a controller, as coordinates         1, each shot's 16 or 2, 3 4
+//   patch_take_runs        the shots of a controller, as coordinates         17, 1, each shot's 16 or 2, 3 4
 //   patch_circuits         C, the number of circuits                         1-4
 //   patch_circuit          the two sides of circuit z                        1-4, 12
 //   patch_test             is the list a triangulation?                      1-4, 7 10 8 9
@@ -159,14 +159,15 @@ pub extern "C" fn patch_chains(
 
 #[no_mangle]
 pub extern "C" fn patch_take_runs(
+    edition: usize,
     units: &[u8],
     values: &[f64],
     shots: &mut [i32; COORDINATES_MOST],
     count: &mut usize,
 ) -> u8
-    ensures { λ r. ⌜ (r ≡ numberOf (takeRunsOf (now (units .entry)) (now (values .entry)) .answer)) × (now (shots .exit) ≡ besideAt (now (shots .entry)) (takeRunsOf (now (units .entry)) (now (values .entry)) .answer) (takeRunsOf (now (units .entry)) (now (values .entry)) .coordinates)) × (now (count .exit) ≡ leftAt (now (count .entry)) (takeRunsOf (now (units .entry)) (now (values .entry)) .answer)) ⌝ }
+    ensures { λ r. ⌜ (r ≡ numberOf (takeRunsOf edition (now (units .entry)) (now (values .entry)) .answer)) × (now (shots .exit) ≡ besideAt (now (shots .entry)) (takeRunsOf edition (now (units .entry)) (now (values .entry)) .answer) (takeRunsOf edition (now (units .entry)) (now (values .entry)) .coordinates)) × (now (count .exit) ≡ leftAt (now (count .entry)) (takeRunsOf edition (now (units .entry)) (now (values .entry)) .answer)) ⌝ }
 {
-    let taken = intake::take_runs(units, values);
+    let taken = intake::take_runs(edition, units, values);
     let answer = taken.answer;
     let coordinates = taken.coordinates;
     match answer {

@@ -342,15 +342,15 @@ fn ten_shots(units: &[u8], values: &[f64; VALUES_ROOM]) -> [Shot; SHOTS_MOST] {
 }
 
 // The patterns of the values stand where a table does, in the line's second run.
-fn of_intake(line: &[u8], units: &[u8], patterns: &[u64], count: usize) -> bool {
+fn of_intake(line: &[u8], edition: usize, units: &[u8], patterns: &[u64], count: usize) -> bool {
     let mut values = [0.0; VALUES_ROOM];
     let n = parse::doubles(patterns, &mut values);
     if parse::is(line, b"take") {
-        handed(intake::take(ten_shots(units, &values), count));
+        handed(intake::take(edition, ten_shots(units, &values), count));
         return true;
     }
     if parse::is(line, b"take_runs") {
-        handed(intake::take_runs(units, &values[..n]));
+        handed(intake::take_runs(edition, units, &values[..n]));
         return true;
     }
     false
@@ -386,7 +386,7 @@ fn called(
     if of_outline(line, shots, bytes, more, Lengths { south: a, north: b }) {
         return true;
     }
-    of_intake(line, bytes, table, a)
+    of_intake(line, a, bytes, table, b)
 }
 
 // The word, the answer, and what was left; an unknown word is said to be so.

@@ -12,7 +12,7 @@ returns c = sym (ap (scaledOf (c .before .before .before .args .foot)) (c .befor
 
 returns-2 : tie.Need-returns-2
 unfolding scaledOf
-returns-2 c = sym (ap (scaledOf (c .before .before .before .before .before .before .before .args .foot)) (c .before .before .before .before .before .shot2 .given .1))
+returns-2 c = sym (ap (scaledOf (c .before .before .before .args .foot)) (c .before .shot2 .given .1))
 
 pub scale-spec : {M : Type 1} → statement M
 scale-spec = tie.close (tie.spec (λ c. search needs) (λ c. search needs) returns returns-2)
