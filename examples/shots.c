@@ -74,16 +74,36 @@ static int word_meaning(const char *word, size_t length)
     return 0;
 }
 
-/* The same of a word that may be two, written as one: NorthingFt is the northing, in feet. */
+/* The same of words that are written as one, as IntlFt, each the longest that there is. None of them is a single letter: there is no US in use. */
+static int words_meaning(const char *word, size_t length)
+{
+    static const size_t longest = sizeof "international" - 1;
+    int all = 0;
+    if (word_meaning(word, length))
+        return word_meaning(word, length);
+    while (length > 0) {
+        size_t front = length < longest ? length : longest;
+        while (front >= 2 && !word_meaning(word, front))
+            front--;
+        if (front < 2)
+            return 0;
+        all |= word_meaning(word, front);
+        word += front;
+        length -= front;
+    }
+    return all;
+}
+
+/* The same, also behind the name of a column: NorthingFt is the northing, in feet. */
 static int joined_meaning(const char *word, size_t length)
 {
     static const char *const columns[] = {"northing", "easting"};
     for (size_t at = 0; at < sizeof columns / sizeof columns[0]; at++) {
         size_t front = strlen(columns[at]);
         if (length > front && strncasecmp(word, columns[at], front) == 0)
-            return word_meaning(word, front) | word_meaning(word + front, length - front);
+            return word_meaning(word, front) | words_meaning(word + front, length - front);
     }
-    return word_meaning(word, length);
+    return words_meaning(word, length);
 }
 
 /* All that the words of a field mean. The loose meanings are those that count only of a word for feet, or of one directly before or after it. */
