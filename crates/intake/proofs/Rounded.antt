@@ -9,16 +9,15 @@
 use mathlib.Core.Path.{_≡_, refl, sym, _∙_, ap, subst}
 use mathlib.Core.Logic.{_⊎_, inl, inr}
 use mathlib.Core.Bool.{Bool, true, false, cond, false≢true}
-use Prim.Native.Nat.{ℕ, suc, _+_, _-_, _*_, _/_, _^_, _≤_, _<_}
+use Prim.Native.Nat.{ℕ, _+_, _-_, _*_, _/_, _^_, _≤_, _<_}
 use native.Mathlib.Nat.{le-trans, le-of-eq, mul-one, mul-assoc, mul-left-comm, mul-right-comm, mul-le-mul-left, le-of-mul-le-mul-right, lt-of-mul-lt-mul-right, mul-pos, le-div-iff-mul-le, div-lt-iff-lt-mul, div-div-eq-div-mul}
 use native.Mathlib.Omega.{arith}
 use native.Mathlib.Decide.{decLt}
 use borrow.Author.Tests.{ltb-true, eqb-false}
 use lib.Dec.{T, ltb, eqb}
-use lib.Count.{trailingZeros}
 use lib.Pow.{pow-add, pow-pos, pow-mono}
 use lib.IntN.{pos, natAbs}
-use lib.Ieee.{Float, nan, inf, fin, binary64, span, climb, size, odd, units, round, unlike, up, down, mul, div, ofInt}
+use lib.Ieee.{Float, nan, inf, fin, binary64, size, odd, units, round, unlike, up, down, mul, div, ofInt}
 use lib.Ieee.Back.{round-whole}
 use lib.Ieee.Bits.{is-true}
 use lib.Ieee.Digits.{size-reaches}

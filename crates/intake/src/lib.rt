@@ -7,8 +7,8 @@
 // Every call takes every input; specs/Calls.antt says what it answers, specs/Scaling.antt which operations are made, specs/Nearest.antt which whole number is taken,
 // specs/Lines.antt when a call refuses.
 ghost use mathlib.Core.Path.{_≡_};
-ghost use lib.IntN.{pos};
 ghost use mathlib.Core.Bool.{false};
+ghost use lib.IntN.{pos};
 ghost use lib.ListN.{take, replicate};
 ghost use Rattle.algebra.specs.Answer.{refuses, refusal};
 ghost use Rattle.shots.specs.Sizes.{coordinatesMost};
@@ -78,7 +78,7 @@ fn unfit(edition: usize, count: usize) -> u8
     0
 }
 
-// The shots by any foot's factors.
+// The shots by a foot's factors, once their number is right.
 fn taken(foot: Foot, shots: [Shot; SHOTS_MOST], count: usize) -> Handed
     requires { ⌜ countRule count .broken ≡ false ⌝ }
     ensures { λ r. ⌜ readPatch r ≡ takenBy foot (countRule count) (take count shots) count ⌝ }
