@@ -8,6 +8,7 @@
 --   take-accepted, take-runs-accepted             what is handed out is an accepted patch
 --   take-nearest, take-runs-nearest               its x and y are nearest to the scaled east and north of each shot
 --   taken-accepted, taken-nearest                 so it is for every pair of factors
+--   edition-1, edition-2                          edition 1 takes shots by the US survey foot, 2 by the international foot
 --   metres-taken, metres-scaled                   shots in metres are taken the same way by every pair of factors
 --   take-metres, take-runs-metres                 so where all are in metres, the two editions answer the same
 --   take-metres-at, take-runs-metres-at           and where some are, those have the same x and y in both
@@ -38,7 +39,7 @@ use Rattle.shots.specs.declared.Handed.{Handed}
 use Rattle.shots.proofs.Promises.{shots-decided}
 use Rattle.shots.proofs.HandedLaws.{handed-refuses, handed-gives, handed-coordinates, handed-refused, handed-kept, handed-front, patch-one}
 use Rattle.intake.specs.Nearest.{Nearest, wholeOf}
-use Rattle.intake.specs.Scaling.{footOf, scaledOf, answersOf, millimetresOf, atOrigin, InMetres, AllInMetres}
+use Rattle.intake.specs.Scaling.{surveyFoot, internationalFoot, footOf, scaledOf, answersOf, millimetresOf, PlacedAt, atOrigin, InMetres, AllInMetres}
 use Rattle.intake.specs.Tests.{farOff, finiteRule, rangeRule, turnRules, countRule, intakeRules, editionRule}
 use Rattle.intake.specs.Runs.{shotIn, shotsIn, runsRule}
 use Rattle.intake.specs.Lines.{NotFinite, OutOfRange, turnLines, intakeLines, Unknown, editionLines, FewOrMany, Unequal, takeLines, takeRunsLines}
@@ -124,7 +125,7 @@ module _ (foot : Foot) (r : Rule) (l : List Shot) (n : ℕ) (many : length l ≡
     at : (j : ℕ) → j < 2 * m → getD (out .coordinates) j (pos 0) ≡ getD (millimetresOf foot l) j (pos 0)
     at j h = sym (getD-take (2 * m) (out .coordinates) j (pos 0) h) ∙ ap (λ (t : List ℤ). getD t j (pos 0)) front
 
-    pub taken-nearest : (i : ℕ) → i < m → Nearest (scaledOf foot (getD l i atOrigin) .east) (xOf (out .coordinates) i) × Nearest (scaledOf foot (getD l i atOrigin) .north) (yOf (out .coordinates) i)
+    pub taken-nearest : (i : ℕ) → i < m → PlacedAt foot (getD l i atOrigin) (out .coordinates) i
     unfolding xOf yOf
     taken-nearest i h =
         let b : i < length l = omega (arith, many, same, h) in
@@ -146,12 +147,20 @@ module _ (e : ℕ) (r : Rule) (l : List Shot) (n : ℕ) (many : length l ≡ n) 
   edition-accepted : refusalOf (take (2 * m) (takenIn e r l n .coordinates)) ≡ 0
   edition-accepted = ap (λ (p : PatchRead). refusalOf (take (2 * m) (p .coordinates))) (sym by-foot) ∙ taken-accepted (footOf e) r l n many kept m given
 
-  edition-nearest : (i : ℕ) → i < m → {s : Shot} → getD l i atOrigin ≡ s
-      → Nearest (scaledOf (footOf e) s .east) (xOf (takenIn e r l n .coordinates) i) × Nearest (scaledOf (footOf e) s .north) (yOf (takenIn e r l n .coordinates) i)
+  edition-nearest : (i : ℕ) → i < m → {s : Shot} → getD l i atOrigin ≡ s → PlacedAt (footOf e) s (takenIn e r l n .coordinates) i
   edition-nearest i h q =
-      subst (λ (s : Shot). Nearest (scaledOf (footOf e) s .east) (xOf (takenIn e r l n .coordinates) i) × Nearest (scaledOf (footOf e) s .north) (yOf (takenIn e r l n .coordinates) i)) q
-      (subst (λ (p : PatchRead). Nearest (scaledOf (footOf e) (getD l i atOrigin) .east) (xOf (p .coordinates) i) × Nearest (scaledOf (footOf e) (getD l i atOrigin) .north) (yOf (p .coordinates) i)) by-foot
-      (taken-nearest (footOf e) r l n many kept m given i h))
+      subst (λ (s : Shot). PlacedAt (footOf e) s (takenIn e r l n .coordinates) i) q
+      (subst (λ (p : PatchRead). PlacedAt (footOf e) (getD l i atOrigin) (p .coordinates) i) by-foot (taken-nearest (footOf e) r l n many kept m given i h))
+
+-- which foot each edition is
+module _ (r : Rule) (l : List Shot) (n : ℕ) where
+  pub edition-1 : takenIn 1 r l n ≡ takenBy surveyFoot r l n
+  unfolding footOf
+  edition-1 = sym (edition-known 1 r l n refl)
+
+  pub edition-2 : takenIn 2 r l n ≡ takenBy internationalFoot r l n
+  unfolding footOf
+  edition-2 = sym (edition-known 2 r l n refl)
 
 -- ---- metres, by two pairs of factors
 
@@ -174,15 +183,15 @@ module _ (foot foot′ : Foot) where
   pub metres-taken : (r : Rule) (l : List Shot) (n : ℕ) → AllInMetres l → takenBy foot r l n ≡ takenBy foot′ r l n
   metres-taken r l n h = λ k. patchGiven (r ∷ (metres-rules l h k ++ shapeRules (metres-places l h k))) n (metres-places l h k)
 
+  metres-placed : (s : Shot) (c c′ : List ℤ) (i : ℕ) → InMetres s → PlacedAt foot s c i → PlacedAt foot′ s c′ i → (xOf c i ≡ xOf c′ i) × (yOf c i ≡ yOf c′ i)
+  metres-placed s c c′ i h (p, q) (u, v) = let e = metres-scaled s h in (same-whole (ap (λ (z : Scaled). z .east) e) p u, same-whole (ap (λ (z : Scaled). z .north) e) q v)
+    where
+      -- the nearest whole number is one
+      same-whole : {x y : Float} {j k : ℤ} → x ≡ y → Nearest x j → Nearest y k → j ≡ k
+      same-whole {x} {y} {j} {k} e p q = whole-only x j p ∙ ap wholeOf e ∙ sym (whole-only y k q)
+
 metres-edition : (r : Rule) (l : List Shot) (n : ℕ) → AllInMetres l → takenIn 1 r l n ≡ takenIn 2 r l n
-metres-edition r l n h = sym (edition-known 1 r l n refl) ∙ metres-taken (footOf 1) (footOf 2) r l n h ∙ edition-known 2 r l n refl
-
--- the nearest whole number is one
-same-whole : {x y : Float} {j k : ℤ} → x ≡ y → Nearest x j → Nearest y k → j ≡ k
-same-whole {x} {y} {j} {k} e p q = whole-only x j p ∙ ap wholeOf e ∙ sym (whole-only y k q)
-
-same-place : {z z′ : Scaled} {a b c d : ℤ} → z ≡ z′ → Nearest (z .east) a × Nearest (z .north) b → Nearest (z′ .east) c × Nearest (z′ .north) d → (a ≡ c) × (b ≡ d)
-same-place e (p, q) (u, v) = (same-whole (ap (λ (z : Scaled). z .east) e) p u, same-whole (ap (λ (z : Scaled). z .north) e) q v)
+metres-edition r l n h = edition-1 r l n ∙ metres-taken surveyFoot internationalFoot r l n h ∙ sym (edition-2 r l n)
 
 -- ---- take
 
@@ -225,7 +234,7 @@ module _ (e : ℕ) (l : List Shot) (n : ℕ) where
     unfolding takeOf
     take-accepted = edition-accepted e (countRule n) (take n l) n many (λ h. h) m g
 
-    pub take-nearest : (i : ℕ) → i < m → Nearest (scaledOf (footOf e) (getD l i atOrigin) .east) (xOf (takeOf e l n .coordinates) i) × Nearest (scaledOf (footOf e) (getD l i atOrigin) .north) (yOf (takeOf e l n .coordinates) i)
+    pub take-nearest : (i : ℕ) → i < m → PlacedAt (footOf e) (getD l i atOrigin) (takeOf e l n .coordinates) i
     unfolding takeOf
     take-nearest i h = edition-nearest e (countRule n) (take n l) n many (λ h. h) m g i h (getD-take n l i atOrigin (omega (arith, h, take-gives m .0 g .1)))
 
@@ -236,7 +245,8 @@ module _ (l : List Shot) (n : ℕ) where
 
   pub take-metres-at : length l ≡ shotsMost → (m : ℕ) → takeOf 1 l n .answer ≡ gives m → takeOf 2 l n .answer ≡ gives m → (i : ℕ) → i < m → InMetres (getD l i atOrigin)
       → (xOf (takeOf 1 l n .coordinates) i ≡ xOf (takeOf 2 l n .coordinates) i) × (yOf (takeOf 1 l n .coordinates) i ≡ yOf (takeOf 2 l n .coordinates) i)
-  take-metres-at wide m f g i h s = same-place (metres-scaled (footOf 1) (footOf 2) (getD l i atOrigin) s) (take-nearest 1 l n wide m f i h) (take-nearest 2 l n wide m g i h)
+  take-metres-at wide m f g i h s =
+      metres-placed (footOf 1) (footOf 2) (getD l i atOrigin) (takeOf 1 l n .coordinates) (takeOf 2 l n .coordinates) i s (take-nearest 1 l n wide m f i h) (take-nearest 2 l n wide m g i h)
 
 -- ---- take_runs
 
@@ -279,7 +289,7 @@ module _ (e : ℕ) (u : List ℕ) (v : List Float) where
     unfolding takeRunsOf
     take-runs-accepted = edition-accepted e (runsRule u v) (shotsIn u v) (length u) (runs-many u v) (runs-kept u v) m g
 
-    pub take-runs-nearest : (i : ℕ) → i < m → Nearest (scaledOf (footOf e) (shotIn u v i) .east) (xOf (takeRunsOf e u v .coordinates) i) × Nearest (scaledOf (footOf e) (shotIn u v i) .north) (yOf (takeRunsOf e u v .coordinates) i)
+    pub take-runs-nearest : (i : ℕ) → i < m → PlacedAt (footOf e) (shotIn u v i) (takeRunsOf e u v .coordinates) i
     unfolding takeRunsOf shotsIn
     take-runs-nearest i h =
         edition-nearest e (runsRule u v) (shotsIn u v) (length u) (runs-many u v) (runs-kept u v) m g i h
@@ -292,7 +302,8 @@ module _ (u : List ℕ) (v : List Float) where
 
   pub take-runs-metres-at : (m : ℕ) → takeRunsOf 1 u v .answer ≡ gives m → takeRunsOf 2 u v .answer ≡ gives m → (i : ℕ) → i < m → InMetres (shotIn u v i)
       → (xOf (takeRunsOf 1 u v .coordinates) i ≡ xOf (takeRunsOf 2 u v .coordinates) i) × (yOf (takeRunsOf 1 u v .coordinates) i ≡ yOf (takeRunsOf 2 u v .coordinates) i)
-  take-runs-metres-at m f g i h s = same-place (metres-scaled (footOf 1) (footOf 2) (shotIn u v i) s) (take-runs-nearest 1 u v m f i h) (take-runs-nearest 2 u v m g i h)
+  take-runs-metres-at m f g i h s =
+      metres-placed (footOf 1) (footOf 2) (shotIn u v i) (takeRunsOf 1 u v .coordinates) (takeRunsOf 2 u v .coordinates) i s (take-runs-nearest 1 u v m f i h) (take-runs-nearest 2 u v m g i h)
 
 -- ---- one answer
 
