@@ -36,7 +36,7 @@ sixteenth = fin false 1 (negsuc 3)
 abbrev three-sixteenths : Float
 three-sixteenths = fin false 3 (negsuc 3)
 
--- 3937 / 256 and three times that, in feet 4687.5 mm and 14062.5 mm; 3937 / 2, in feet 600000 mm
+-- 3937 / 256 and three times that, in US survey feet 4687.5 mm and 14062.5 mm; 3937 / 2, in those 600000 mm
 abbrev foot-half : Float
 foot-half = fin false 3937 (negsuc 7)
 

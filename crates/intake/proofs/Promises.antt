@@ -8,7 +8,9 @@
 --   take-accepted, take-runs-accepted             what is handed out is an accepted patch
 --   take-nearest, take-runs-nearest               its x and y are nearest to the scaled east and north of each shot
 --   taken-accepted, taken-nearest                 so it is for every pair of factors
+--   placed-taken                                  by whole factors, each operation is rounded once and the nearest whole number is taken
 --   edition-1, edition-2                          edition 1 takes shots by the US survey foot, 2 by the international foot
+--   take-edition-1, take-edition-2, take-runs-edition-1, take-runs-edition-2    so an accepted shot in feet is multiplied by 1200000 and divided by 3937, or by 3048 and by 10
 --   metres-taken, metres-scaled                   shots in metres are taken the same way by every pair of factors
 --   take-metres, take-runs-metres                 so where all are in metres, the two editions answer the same
 --   take-metres-at, take-runs-metres-at           and where some are, those have the same x and y in both
@@ -19,7 +21,7 @@ use mathlib.Core.Path.{_≡_, refl, sym, _∙_, ap, subst}
 use mathlib.Core.Logic.{_⊎_, _↔_}
 use mathlib.Core.Bool.{Bool, true, false, not, true≢false, false≢true}
 use mathlib.Core.List.{List, [], _∷_, _++_}
-use Prim.Native.Nat.{ℕ, _+_, _*_, _≤_, _<_}
+use Prim.Native.Nat.{ℕ, _+_, _*_, _^_, _≤_, _<_}
 use native.Mathlib.Omega.{arith}
 use lib.ListN.{length, getD, take, replicate, length-take}
 use lib.Seq.{getD-take}
@@ -39,7 +41,8 @@ use Rattle.shots.specs.declared.Handed.{Handed}
 use Rattle.shots.proofs.Promises.{shots-decided}
 use Rattle.shots.proofs.HandedLaws.{handed-refuses, handed-gives, handed-coordinates, handed-refused, handed-kept, handed-front, patch-one}
 use Rattle.intake.specs.Nearest.{Nearest, wholeOf}
-use Rattle.intake.specs.Scaling.{surveyFoot, internationalFoot, footOf, scaledOf, answersOf, millimetresOf, PlacedAt, atOrigin, InMetres, AllInMetres}
+use Rattle.intake.specs.Scaling.{factors, surveyFoot, internationalFoot, footOf, ofMetres, ofFeet, scaledOf, answersOf, millimetresOf, atOrigin, InMetres, AllInMetres}
+use Rattle.intake.specs.Places.{PlacedAt, TakenAt}
 use Rattle.intake.specs.Tests.{farOff, finiteRule, rangeRule, turnRules, countRule, intakeRules, editionRule}
 use Rattle.intake.specs.Runs.{shotIn, shotsIn, runsRule}
 use Rattle.intake.specs.Lines.{NotFinite, OutOfRange, turnLines, intakeLines, Unknown, editionLines, FewOrMany, Unequal, takeLines, takeRunsLines}
@@ -49,6 +52,7 @@ use Rattle.intake.specs.declared.Shot.the-variants.{Metres, Feet}
 use Rattle.intake.specs.declared.Foot.{Foot}
 use Rattle.intake.specs.declared.Scaled.{Scaled}
 use Rattle.intake.proofs.Nearness.{whole-nearest, whole-only}
+use Rattle.intake.proofs.Rounded.{metres-once, feet-once}
 use Rattle.intake.proofs.TurnLaws.{shot-fine, turns-at, millimetres-length, millimetres-at}
 use Rattle.intake.proofs.CallChains.{count-few, shots-placed, edition-known}
 
@@ -152,6 +156,12 @@ module _ (e : ℕ) (r : Rule) (l : List Shot) (n : ℕ) (many : length l ≡ n) 
       subst (λ (s : Shot). PlacedAt (footOf e) s (takenIn e r l n .coordinates) i) q
       (subst (λ (p : PatchRead). PlacedAt (footOf e) (getD l i atOrigin) (p .coordinates) i) by-foot (taken-nearest (footOf e) r l n many kept m given i h))
 
+pub placed-taken : (t o : ℕ) → t ≤ 2 ^ 53 → o ≤ 2 ^ 53 → (s : Shot) (c : List ℤ) (i : ℕ) → PlacedAt (factors t o) s c i → TakenAt t o s c i
+unfolding scaledOf
+placed-taken t o h g (Metres e n) c i (p, q) = ((ofMetres e, metres-once e (p .isFinite), p), (ofMetres n, metres-once n (q .isFinite), q))
+placed-taken t o h g (Feet e n) c i (p, q) =
+    ((ofFeet (factors t o) e, feet-once t o h g e (p .isFinite), p), (ofFeet (factors t o) n, feet-once t o h g n (q .isFinite), q))
+
 -- which foot each edition is
 module _ (r : Rule) (l : List Shot) (n : ℕ) where
   pub edition-1 : takenIn 1 r l n ≡ takenBy surveyFoot r l n
@@ -239,6 +249,15 @@ module _ (e : ℕ) (l : List Shot) (n : ℕ) where
     take-nearest i h = edition-nearest e (countRule n) (take n l) n many (λ h. h) m g i h (getD-take n l i atOrigin (omega (arith, h, take-gives m .0 g .1)))
 
 module _ (l : List Shot) (n : ℕ) where
+  module _ (wide : length l ≡ shotsMost) (m i : ℕ) (h : i < m) where
+    pub take-edition-1 : takeOf 1 l n .answer ≡ gives m → TakenAt 1200000 3937 (getD l i atOrigin) (takeOf 1 l n .coordinates) i
+    unfolding footOf
+    take-edition-1 g = placed-taken 1200000 3937 (omega arith) (omega arith) (getD l i atOrigin) (takeOf 1 l n .coordinates) i (take-nearest 1 l n wide m g i h)
+
+    pub take-edition-2 : takeOf 2 l n .answer ≡ gives m → TakenAt 3048 10 (getD l i atOrigin) (takeOf 2 l n .coordinates) i
+    unfolding footOf
+    take-edition-2 g = placed-taken 3048 10 (omega arith) (omega arith) (getD l i atOrigin) (takeOf 2 l n .coordinates) i (take-nearest 2 l n wide m g i h)
+
   pub take-metres : AllInMetres (take n l) → takeOf 1 l n ≡ takeOf 2 l n
   unfolding takeOf
   take-metres = metres-edition (countRule n) (take n l) n
@@ -296,6 +315,15 @@ module _ (e : ℕ) (u : List ℕ) (v : List Float) where
         (getD-tabulate (shotIn u v) (length u) i atOrigin (omega (arith, h, take-runs-gives m .0 g .1)))
 
 module _ (u : List ℕ) (v : List Float) where
+  module _ (m i : ℕ) (h : i < m) where
+    pub take-runs-edition-1 : takeRunsOf 1 u v .answer ≡ gives m → TakenAt 1200000 3937 (shotIn u v i) (takeRunsOf 1 u v .coordinates) i
+    unfolding footOf
+    take-runs-edition-1 g = placed-taken 1200000 3937 (omega arith) (omega arith) (shotIn u v i) (takeRunsOf 1 u v .coordinates) i (take-runs-nearest 1 u v m g i h)
+
+    pub take-runs-edition-2 : takeRunsOf 2 u v .answer ≡ gives m → TakenAt 3048 10 (shotIn u v i) (takeRunsOf 2 u v .coordinates) i
+    unfolding footOf
+    take-runs-edition-2 g = placed-taken 3048 10 (omega arith) (omega arith) (shotIn u v i) (takeRunsOf 2 u v .coordinates) i (take-runs-nearest 2 u v m g i h)
+
   pub take-runs-metres : AllInMetres (shotsIn u v) → takeRunsOf 1 u v ≡ takeRunsOf 2 u v
   unfolding takeRunsOf
   take-runs-metres = metres-edition (runsRule u v) (shotsIn u v) (length u)

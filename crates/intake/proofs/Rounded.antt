@@ -5,7 +5,6 @@
 --   over-once      the quotient by a finite float
 --   metres-once    so the one operation on metres is rounded once, by the whole number 1000
 --   feet-once      so are the two on feet, by every pair of whole numbers that a float has exactly
---   edition-1-once, edition-2-once    and so by those of the two editions
 use mathlib.Core.Path.{_≡_, refl, sym, _∙_, ap, subst}
 use mathlib.Core.Logic.{_⊎_, inl, inr}
 use mathlib.Core.Bool.{Bool, true, false, cond, false≢true}
@@ -27,7 +26,7 @@ use lib.Ieee.Order.{drop, kept}
 use lib.Ieee.Positive.{num, den}
 use lib.Ieee.Scale.{finite, grid, overflow}
 use Rattle.intake.specs.Nearest.{isNegative, NearestTo}
-use Rattle.intake.specs.Scaling.{float, factors, footOf, ofMetres, multiplied, ofFeet}
+use Rattle.intake.specs.Scaling.{float, factors, ofMetres, multiplied, ofFeet}
 use Rattle.intake.specs.Once.{Once, ByFactors}
 use Rattle.intake.proofs.Finiteness.{neither, div-first}
 use Rattle.intake.proofs.Nearness.{closest-nearest, nearest-one, nearest-shared}
@@ -195,11 +194,3 @@ feet-once t o h g x f = record {
   first = times-number x t (float t) (float-exact t h) (is-true (finite (multiplied (factors t o) x)) (div-first binary64 (multiplied (factors t o) x) (float o) (subst T (sym f) tt)));
   then = over-number (multiplied (factors t o) x) o (float o) (float-exact o g) f;
 }
-
-pub edition-1-once : (x : Float) → finite (ofFeet (footOf 1) x) ≡ true → ByFactors 1200000 3937 x (ofFeet (footOf 1) x)
-unfolding footOf
-edition-1-once = feet-once 1200000 3937 (omega arith) (omega arith)
-
-pub edition-2-once : (x : Float) → finite (ofFeet (footOf 2) x) ≡ true → ByFactors 3048 10 x (ofFeet (footOf 2) x)
-unfolding footOf
-edition-2-once = feet-once 3048 10 (omega arith) (omega arith)

@@ -8,7 +8,6 @@
 --   scaledOf foot s      a shot's east and north after the factors of its unit, in millimetres
 --   answersOf foot s     its east, its north, and the answer of every operation on them
 --   millimetresOf foot l the coordinates of the shots l, east then north of each
---   PlacedAt foot s c i  x and y number i of the coordinates c are nearest to the scaled east and north of the shot s
 --   atOrigin             the shot at 0, 0
 --   InMetres s, AllInMetres l    a shot is given in metres, each of l is
 --
@@ -19,8 +18,7 @@ use Prim.Native.Nat.{ℕ}
 use lib.Dec.{eqb}
 use lib.IntN.{ℤ, pos}
 use lib.Ieee.{Float, fin, binary64, ofInt, mul, div}
-use Rattle.shots.specs.Coordinates.{xOf, yOf}
-use Rattle.intake.specs.Nearest.{Nearest, wholeOf}
+use Rattle.intake.specs.Nearest.{wholeOf}
 use Rattle.intake.specs.declared.Shot.{Shot}
 use Rattle.intake.specs.declared.Shot.the-variants.{Metres, Feet}
 use Rattle.intake.specs.declared.Foot.{Foot}
@@ -63,9 +61,6 @@ answersOf foot (Feet e n) = e ∷ n ∷ multiplied foot e ∷ multiplied foot n 
 abbrev pub millimetresOf : Foot → List Shot → List ℤ
 millimetresOf foot [] = []
 millimetresOf foot (s ∷ l) = wholeOf (scaledOf foot s .east) ∷ wholeOf (scaledOf foot s .north) ∷ millimetresOf foot l
-
-abbrev pub PlacedAt : Foot → Shot → List ℤ → ℕ → Type 0
-PlacedAt foot s c i = Nearest (scaledOf foot s .east) (xOf c i) × Nearest (scaledOf foot s .north) (yOf c i)
 
 abbrev pub atOrigin : Shot
 atOrigin = Metres (fin false 0 (pos 0)) (fin false 0 (pos 0))
