@@ -4,4 +4,5 @@ pub mod Finiteness
 pub mod Rounded
 pub mod TurnLaws
 pub mod CallChains
+pub mod PlaceLaws
 pub mod Promises

@@ -4,14 +4,15 @@
 --   closest-nearest   so with a sign it is nearest to the fraction of that sign
 --   nearest-one       no other number is
 --   nearest-moved     an even number more, on both sides
---   nearest-shared    what the fraction's two numbers share goes
+--   nearest-same      the same fraction, by other numbers
 --   whole-nearest, whole-only    `wholeOf x` is nearest to a finite x, and no other number is
+--   nearest-valued    two floats of one value have one nearest number
 --   whole-size        its size
 use mathlib.Core.Path.{_≡_, refl, sym, _∙_, ap, subst}
 use mathlib.Core.Bool.{Bool, true, false, not, cond}
 use mathlib.Core.List.{[], _∷_}
 use Prim.Native.Nat.{ℕ, zero, suc, _+_, _-_, _*_, _/_, _%_, _≤_, _<_, compare, Ordering, Ordering·lt, Ordering·eq, Ordering·gt}
-use native.Mathlib.Nat.{mul-assoc, mul-le-mul-right, le-of-mul-le-mul-right, div-add-mod', mod-lt}
+use native.Mathlib.Nat.{mul-assoc, mul-comm, mul-le-mul-right, le-of-mul-le-mul-right, eq-of-mul-eq-mul-right, div-add-mod', mod-lt}
 use native.Mathlib.Omega.{arith}
 use native.Mathlib.Decide.{decLt}
 use borrow.Author.Tests.{lt-ltb, le-ltb}
@@ -22,6 +23,7 @@ use lib.Ieee.{Float, nearest}
 use lib.Ieee.Nearest.{closest}
 use lib.Ieee.Positive.{num, den, den-pos}
 use lib.Ieee.Scale.{finite}
+use Rattle.algebra.proofs.IntLaws.{*ℤ-neg-l}
 use Rattle.algebra.proofs.Ring.{var, _⊕_, _⊝_, _⊗_, neg, ring, sub-zero→eq}
 use Rattle.algebra.proofs.SizeLaws.{natAbs-zero, natAbs-neg, natAbs-sub, natAbs-mul}
 use Rattle.intake.specs.Nearest.{signed, isNegative, valueOf, offBy, NearestTo, Nearest, wholeOf}
@@ -158,17 +160,20 @@ nearest-moved A D h n a = record {
     same : offBy A D (n -ℤ pos (2 * h)) ≡ offBy (A +ℤ pos (2 * h) *ℤ pos D) D n
     same = ap natAbs (ring (A ∷ n ∷ pos (2 * h) ∷ pos D ∷ []) (var 0 ⊝ (var 1 ⊝ var 2) ⊗ var 3) (var 0 ⊕ var 2 ⊗ var 3 ⊝ var 1 ⊗ var 3) tt)
 
-pub nearest-shared : (A : ℤ) (D d : ℕ) (n : ℤ) → 0 < d → NearestTo (A *ℤ pos d) (D * d) n → NearestTo A D n
-nearest-shared A D d n P a = record {
-  close = le-of-mul-le-mul-right (subst (λ (m : ℕ). m ≤ D * d) times (a .close)) P;
-  even = λ e. a .even (times ∙ ap (λ (m : ℕ). m * d) e);
+pub nearest-same : (A B : ℤ) (D E : ℕ) (n : ℤ) → 0 < D → 0 < E → A *ℤ pos E ≡ B *ℤ pos D → NearestTo A D n → NearestTo B E n
+nearest-same A B D E n P Q p a = record {
+  close = le-of-mul-le-mul-right (subst (λ (m : ℕ). m ≤ E * D) twice (subst (λ (m : ℕ). 2 * offBy A D n * E ≤ m) (mul-comm D E) (mul-le-mul-right E (a .close)))) P;
+  even = λ e. a .even (eq-of-mul-eq-mul-right E Q (2 * offBy A D n) D (twice ∙ ap (λ (m : ℕ). m * D) e ∙ mul-comm E D));
 }
   where
-    same : offBy (A *ℤ pos d) (D * d) n ≡ offBy A D n * d
-    same = ap natAbs (ring (A ∷ n ∷ pos D ∷ pos d ∷ []) (var 0 ⊗ var 3 ⊝ var 1 ⊗ (var 2 ⊗ var 3)) ((var 0 ⊝ var 1 ⊗ var 2) ⊗ var 3) tt) ∙ natAbs-mul (A -ℤ n *ℤ pos D) (pos d)
+    far : (C : ℤ) (F G : ℕ) → offBy C F n * G ≡ natAbs (C *ℤ pos G -ℤ n *ℤ (pos F *ℤ pos G))
+    far C F G = sym (natAbs-mul (C -ℤ n *ℤ pos F) (pos G)) ∙ ap natAbs (ring (C ∷ n ∷ pos F ∷ pos G ∷ []) ((var 0 ⊝ var 1 ⊗ var 2) ⊗ var 3) (var 0 ⊗ var 3 ⊝ var 1 ⊗ (var 2 ⊗ var 3)) tt)
 
-    times : 2 * offBy (A *ℤ pos d) (D * d) n ≡ 2 * offBy A D n * d
-    times = ap (λ (m : ℕ). 2 * m) same ∙ sym (mul-assoc 2 (offBy A D n) d)
+    same : offBy A D n * E ≡ offBy B E n * D
+    same = far A D E ∙ (λ k. natAbs (p k -ℤ n *ℤ pos (mul-comm D E k))) ∙ sym (far B E D)
+
+    twice : 2 * offBy A D n * E ≡ 2 * offBy B E n * D
+    twice = mul-assoc 2 (offBy A D n) E ∙ ap (λ (m : ℕ). 2 * m) same ∙ sym (mul-assoc 2 (offBy B E n) D)
 
 -- ---- of a float
 
@@ -178,6 +183,17 @@ whole-nearest x h = record { isFinite = h; nearest = closest-nearest (isNegative
 
 pub whole-only : (x : Float) (n : ℤ) → Nearest x n → n ≡ wholeOf x
 whole-only x n h = nearest-one (valueOf x) (den x) n (wholeOf x) (den-pos x) (h .nearest) (whole-nearest x (h .isFinite) .nearest)
+
+pub nearest-valued : {x y : Float} {j k : ℤ} → isNegative x ≡ isNegative y → num x * den y ≡ num y * den x → Nearest x j → Nearest y k → j ≡ k
+unfolding valueOf
+nearest-valued {x} {y} {j} {k} s e p q =
+    nearest-one (valueOf y) (den y) j k (den-pos y)
+    (nearest-same (valueOf x) (valueOf y) (den x) (den y) j (den-pos x) (den-pos y) (times (isNegative x) (num x) (den y) ∙ (λ i. signed (s i) (e i)) ∙ sym (times (isNegative y) (num y) (den x))) (p .nearest))
+    (q .nearest)
+  where
+    times : (b : Bool) (m d : ℕ) → signed b m *ℤ pos d ≡ signed b (m * d)
+    times false m d = refl
+    times true m d = *ℤ-neg-l (pos m) (pos d)
 
 pub whole-size : (x : Float) → natAbs (wholeOf x) ≡ closest (num x) (den x)
 unfolding wholeOf

@@ -8,20 +8,19 @@
 --   take-accepted, take-runs-accepted             what is handed out is an accepted patch
 --   take-nearest, take-runs-nearest               its x and y are nearest to the scaled east and north of each shot
 --   taken-accepted, taken-nearest                 so it is for every pair of factors
---   placed-taken                                  by whole factors, each operation is rounded once and the nearest whole number is taken
---   edition-1, edition-2                          edition 1 takes shots by the US survey foot, 2 by the international foot
---   take-edition-1, take-edition-2, take-runs-edition-1, take-runs-edition-2    so an accepted shot in feet is multiplied by 1200000 and divided by 3937, or by 3048 and by 10
+--   edition-taken                                 an edition takes shots by its factors
+--   take-edition, take-runs-edition               so accepted shots in feet are multiplied and divided by these, each rounded once
 --   metres-taken, metres-scaled                   shots in metres are taken the same way by every pair of factors
 --   take-metres, take-runs-metres                 so where all are in metres, the two editions answer the same
 --   take-metres-at, take-runs-metres-at           and where some are, those have the same x and y in both
 --   take-one, take-runs-one                       two permitted answers are the same
 --
--- That no other whole number is nearest: proofs/Nearness (`whole-only`). Source: document 02, E2, E13.
+-- That no other whole number is nearest: proofs/Nearness (`whole-only`); that no other x and y are taken so: proofs/PlaceLaws (`taken-only`). Source: document 02, E2, E13.
 use mathlib.Core.Path.{_≡_, refl, sym, _∙_, ap, subst}
 use mathlib.Core.Logic.{_⊎_, _↔_}
 use mathlib.Core.Bool.{Bool, true, false, not, true≢false, false≢true}
 use mathlib.Core.List.{List, [], _∷_, _++_}
-use Prim.Native.Nat.{ℕ, _+_, _*_, _^_, _≤_, _<_}
+use Prim.Native.Nat.{ℕ, _+_, _*_, _≤_, _<_}
 use native.Mathlib.Omega.{arith}
 use lib.ListN.{length, getD, take, replicate, length-take}
 use lib.Seq.{getD-take}
@@ -41,8 +40,8 @@ use Rattle.shots.specs.declared.Handed.{Handed}
 use Rattle.shots.proofs.Promises.{shots-decided}
 use Rattle.shots.proofs.HandedLaws.{handed-refuses, handed-gives, handed-coordinates, handed-refused, handed-kept, handed-front, patch-one}
 use Rattle.intake.specs.Nearest.{Nearest, wholeOf}
-use Rattle.intake.specs.Scaling.{factors, surveyFoot, internationalFoot, footOf, ofMetres, ofFeet, scaledOf, answersOf, millimetresOf, atOrigin, InMetres, AllInMetres}
-use Rattle.intake.specs.Places.{PlacedAt, TakenAt}
+use Rattle.intake.specs.Scaling.{factors, surveyFoot, internationalFoot, footOf, scaledOf, answersOf, millimetresOf, atOrigin, InMetres, AllInMetres}
+use Rattle.intake.specs.Places.{PlacedAt, TakenAt, Edition, survey, international}
 use Rattle.intake.specs.Tests.{farOff, finiteRule, rangeRule, turnRules, countRule, intakeRules, editionRule}
 use Rattle.intake.specs.Runs.{shotIn, shotsIn, runsRule}
 use Rattle.intake.specs.Lines.{NotFinite, OutOfRange, turnLines, intakeLines, Unknown, editionLines, FewOrMany, Unequal, takeLines, takeRunsLines}
@@ -50,11 +49,10 @@ use Rattle.intake.specs.Calls.{takenBy, takenIn, takeOf, takeRunsOf}
 use Rattle.intake.specs.declared.Shot.{Shot}
 use Rattle.intake.specs.declared.Shot.the-variants.{Metres, Feet}
 use Rattle.intake.specs.declared.Foot.{Foot}
-use Rattle.intake.specs.declared.Scaled.{Scaled}
 use Rattle.intake.proofs.Nearness.{whole-nearest, whole-only}
-use Rattle.intake.proofs.Rounded.{metres-once, feet-once}
 use Rattle.intake.proofs.TurnLaws.{shot-fine, turns-at, millimetres-length, millimetres-at}
 use Rattle.intake.proofs.CallChains.{count-few, shots-placed, edition-known}
+use Rattle.intake.proofs.PlaceLaws.{edition-factors, placed-edition, metres-placed}
 
 -- ---- the rules decide the lines
 
@@ -156,21 +154,9 @@ module _ (e : ℕ) (r : Rule) (l : List Shot) (n : ℕ) (many : length l ≡ n) 
       subst (λ (s : Shot). PlacedAt (footOf e) s (takenIn e r l n .coordinates) i) q
       (subst (λ (p : PatchRead). PlacedAt (footOf e) (getD l i atOrigin) (p .coordinates) i) by-foot (taken-nearest (footOf e) r l n many kept m given i h))
 
-pub placed-taken : (t o : ℕ) → t ≤ 2 ^ 53 → o ≤ 2 ^ 53 → (s : Shot) (c : List ℤ) (i : ℕ) → PlacedAt (factors t o) s c i → TakenAt t o s c i
-unfolding scaledOf
-placed-taken t o h g (Metres e n) c i (p, q) = ((ofMetres e, metres-once e (p .isFinite), p), (ofMetres n, metres-once n (q .isFinite), q))
-placed-taken t o h g (Feet e n) c i (p, q) =
-    ((ofFeet (factors t o) e, feet-once t o h g e (p .isFinite), p), (ofFeet (factors t o) n, feet-once t o h g n (q .isFinite), q))
-
--- which foot each edition is
-module _ (r : Rule) (l : List Shot) (n : ℕ) where
-  pub edition-1 : takenIn 1 r l n ≡ takenBy surveyFoot r l n
-  unfolding footOf
-  edition-1 = sym (edition-known 1 r l n refl)
-
-  pub edition-2 : takenIn 2 r l n ≡ takenBy internationalFoot r l n
-  unfolding footOf
-  edition-2 = sym (edition-known 2 r l n refl)
+-- by an edition's factors
+pub edition-taken : {e t o : ℕ} → Edition e t o → (r : Rule) (l : List Shot) (n : ℕ) → takenIn e r l n ≡ takenBy (factors t o) r l n
+edition-taken {e} d r l n = let (p, k, _) = edition-factors d in sym (edition-known e r l n k) ∙ ap (λ (foot : Foot). takenBy foot r l n) p
 
 -- ---- metres, by two pairs of factors
 
@@ -193,15 +179,8 @@ module _ (foot foot′ : Foot) where
   pub metres-taken : (r : Rule) (l : List Shot) (n : ℕ) → AllInMetres l → takenBy foot r l n ≡ takenBy foot′ r l n
   metres-taken r l n h = λ k. patchGiven (r ∷ (metres-rules l h k ++ shapeRules (metres-places l h k))) n (metres-places l h k)
 
-  metres-placed : (s : Shot) (c c′ : List ℤ) (i : ℕ) → InMetres s → PlacedAt foot s c i → PlacedAt foot′ s c′ i → (xOf c i ≡ xOf c′ i) × (yOf c i ≡ yOf c′ i)
-  metres-placed s c c′ i h (p, q) (u, v) = let e = metres-scaled s h in (same-whole (ap (λ (z : Scaled). z .east) e) p u, same-whole (ap (λ (z : Scaled). z .north) e) q v)
-    where
-      -- the nearest whole number is one
-      same-whole : {x y : Float} {j k : ℤ} → x ≡ y → Nearest x j → Nearest y k → j ≡ k
-      same-whole {x} {y} {j} {k} e p q = whole-only x j p ∙ ap wholeOf e ∙ sym (whole-only y k q)
-
 metres-edition : (r : Rule) (l : List Shot) (n : ℕ) → AllInMetres l → takenIn 1 r l n ≡ takenIn 2 r l n
-metres-edition r l n h = edition-1 r l n ∙ metres-taken surveyFoot internationalFoot r l n h ∙ sym (edition-2 r l n)
+metres-edition r l n h = edition-taken survey r l n ∙ metres-taken surveyFoot internationalFoot r l n h ∙ sym (edition-taken international r l n)
 
 -- ---- take
 
@@ -248,16 +227,10 @@ module _ (e : ℕ) (l : List Shot) (n : ℕ) where
     unfolding takeOf
     take-nearest i h = edition-nearest e (countRule n) (take n l) n many (λ h. h) m g i h (getD-take n l i atOrigin (omega (arith, h, take-gives m .0 g .1)))
 
+    pub take-edition : (t o : ℕ) → Edition e t o → (i : ℕ) → i < m → TakenAt t o (getD l i atOrigin) (takeOf e l n .coordinates) i
+    take-edition t o d i h = placed-edition d (getD l i atOrigin) (takeOf e l n .coordinates) i (take-nearest i h)
+
 module _ (l : List Shot) (n : ℕ) where
-  module _ (wide : length l ≡ shotsMost) (m i : ℕ) (h : i < m) where
-    pub take-edition-1 : takeOf 1 l n .answer ≡ gives m → TakenAt 1200000 3937 (getD l i atOrigin) (takeOf 1 l n .coordinates) i
-    unfolding footOf
-    take-edition-1 g = placed-taken 1200000 3937 (omega arith) (omega arith) (getD l i atOrigin) (takeOf 1 l n .coordinates) i (take-nearest 1 l n wide m g i h)
-
-    pub take-edition-2 : takeOf 2 l n .answer ≡ gives m → TakenAt 3048 10 (getD l i atOrigin) (takeOf 2 l n .coordinates) i
-    unfolding footOf
-    take-edition-2 g = placed-taken 3048 10 (omega arith) (omega arith) (getD l i atOrigin) (takeOf 2 l n .coordinates) i (take-nearest 2 l n wide m g i h)
-
   pub take-metres : AllInMetres (take n l) → takeOf 1 l n ≡ takeOf 2 l n
   unfolding takeOf
   take-metres = metres-edition (countRule n) (take n l) n
@@ -265,7 +238,7 @@ module _ (l : List Shot) (n : ℕ) where
   pub take-metres-at : length l ≡ shotsMost → (m : ℕ) → takeOf 1 l n .answer ≡ gives m → takeOf 2 l n .answer ≡ gives m → (i : ℕ) → i < m → InMetres (getD l i atOrigin)
       → (xOf (takeOf 1 l n .coordinates) i ≡ xOf (takeOf 2 l n .coordinates) i) × (yOf (takeOf 1 l n .coordinates) i ≡ yOf (takeOf 2 l n .coordinates) i)
   take-metres-at wide m f g i h s =
-      metres-placed (footOf 1) (footOf 2) (getD l i atOrigin) (takeOf 1 l n .coordinates) (takeOf 2 l n .coordinates) i s (take-nearest 1 l n wide m f i h) (take-nearest 2 l n wide m g i h)
+      metres-placed 1200000 3937 3048 10 (getD l i atOrigin) s (takeOf 1 l n .coordinates) (takeOf 2 l n .coordinates) i (take-edition 1 l n wide m f 1200000 3937 survey i h) (take-edition 2 l n wide m g 3048 10 international i h)
 
 -- ---- take_runs
 
@@ -314,16 +287,10 @@ module _ (e : ℕ) (u : List ℕ) (v : List Float) where
         edition-nearest e (runsRule u v) (shotsIn u v) (length u) (runs-many u v) (runs-kept u v) m g i h
         (getD-tabulate (shotIn u v) (length u) i atOrigin (omega (arith, h, take-runs-gives m .0 g .1)))
 
+    pub take-runs-edition : (t o : ℕ) → Edition e t o → (i : ℕ) → i < m → TakenAt t o (shotIn u v i) (takeRunsOf e u v .coordinates) i
+    take-runs-edition t o d i h = placed-edition d (shotIn u v i) (takeRunsOf e u v .coordinates) i (take-runs-nearest i h)
+
 module _ (u : List ℕ) (v : List Float) where
-  module _ (m i : ℕ) (h : i < m) where
-    pub take-runs-edition-1 : takeRunsOf 1 u v .answer ≡ gives m → TakenAt 1200000 3937 (shotIn u v i) (takeRunsOf 1 u v .coordinates) i
-    unfolding footOf
-    take-runs-edition-1 g = placed-taken 1200000 3937 (omega arith) (omega arith) (shotIn u v i) (takeRunsOf 1 u v .coordinates) i (take-runs-nearest 1 u v m g i h)
-
-    pub take-runs-edition-2 : takeRunsOf 2 u v .answer ≡ gives m → TakenAt 3048 10 (shotIn u v i) (takeRunsOf 2 u v .coordinates) i
-    unfolding footOf
-    take-runs-edition-2 g = placed-taken 3048 10 (omega arith) (omega arith) (shotIn u v i) (takeRunsOf 2 u v .coordinates) i (take-runs-nearest 2 u v m g i h)
-
   pub take-runs-metres : AllInMetres (shotsIn u v) → takeRunsOf 1 u v ≡ takeRunsOf 2 u v
   unfolding takeRunsOf
   take-runs-metres = metres-edition (runsRule u v) (shotsIn u v) (length u)
@@ -331,7 +298,7 @@ module _ (u : List ℕ) (v : List Float) where
   pub take-runs-metres-at : (m : ℕ) → takeRunsOf 1 u v .answer ≡ gives m → takeRunsOf 2 u v .answer ≡ gives m → (i : ℕ) → i < m → InMetres (shotIn u v i)
       → (xOf (takeRunsOf 1 u v .coordinates) i ≡ xOf (takeRunsOf 2 u v .coordinates) i) × (yOf (takeRunsOf 1 u v .coordinates) i ≡ yOf (takeRunsOf 2 u v .coordinates) i)
   take-runs-metres-at m f g i h s =
-      metres-placed (footOf 1) (footOf 2) (shotIn u v i) (takeRunsOf 1 u v .coordinates) (takeRunsOf 2 u v .coordinates) i s (take-runs-nearest 1 u v m f i h) (take-runs-nearest 2 u v m g i h)
+      metres-placed 1200000 3937 3048 10 (shotIn u v i) s (takeRunsOf 1 u v .coordinates) (takeRunsOf 2 u v .coordinates) i (take-runs-edition 1 u v m f 1200000 3937 survey i h) (take-runs-edition 2 u v m g 3048 10 international i h)
 
 -- ---- one answer
 

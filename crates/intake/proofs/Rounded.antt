@@ -3,13 +3,14 @@
 --   once-one       there is one value that an exact value is rounded to so
 --   times-once     the product
 --   over-once      the quotient by a finite float
+--   once-same, once-valued    an exact value by other numbers is rounded to the same value
 --   metres-once    so the one operation on metres is rounded once, by the whole number 1000
---   feet-once      so are the two on feet, by every pair of whole numbers that a float has exactly
+--   feet-once      so are the two on feet, by every two whole numbers that a float has exactly, the second not 0
 use mathlib.Core.Path.{_≡_, refl, sym, _∙_, ap, subst}
 use mathlib.Core.Logic.{_⊎_, inl, inr}
 use mathlib.Core.Bool.{Bool, true, false, cond, false≢true}
 use Prim.Native.Nat.{ℕ, _+_, _-_, _*_, _/_, _^_, _≤_, _<_}
-use native.Mathlib.Nat.{le-trans, le-of-eq, mul-one, mul-assoc, mul-left-comm, mul-right-comm, mul-le-mul-left, le-of-mul-le-mul-right, lt-of-mul-lt-mul-right, mul-pos, le-div-iff-mul-le, div-lt-iff-lt-mul, div-div-eq-div-mul}
+use native.Mathlib.Nat.{le-trans, le-of-eq, mul-one, mul-assoc, mul-comm, mul-left-comm, mul-right-comm, mul-le-mul-left, mul-le-mul-right, mul-lt-mul-of-pos-right, le-of-mul-le-mul-right, lt-of-mul-lt-mul-right, eq-of-mul-eq-mul-right, mul-pos, le-div-iff-mul-le, div-lt-iff-lt-mul, div-div-eq-div-mul}
 use native.Mathlib.Omega.{arith}
 use native.Mathlib.Decide.{decLt}
 use borrow.Author.Tests.{ltb-true, eqb-false}
@@ -23,13 +24,13 @@ use lib.Ieee.Digits.{size-reaches}
 use lib.Ieee.Fits.{kept-lt, round-is, up-pos, down-pos}
 use lib.Ieee.Exact.{HasValue, units-val}
 use lib.Ieee.Order.{drop, kept}
-use lib.Ieee.Positive.{num, den}
+use lib.Ieee.Positive.{num, den, den-pos}
 use lib.Ieee.Scale.{finite, grid, overflow}
 use Rattle.intake.specs.Nearest.{isNegative, NearestTo}
 use Rattle.intake.specs.Scaling.{float, factors, ofMetres, multiplied, ofFeet}
 use Rattle.intake.specs.Once.{Once, ByFactors}
 use Rattle.intake.proofs.Finiteness.{neither, div-first}
-use Rattle.intake.proofs.Nearness.{closest-nearest, nearest-one, nearest-shared}
+use Rattle.intake.proofs.Nearness.{closest-nearest, nearest-one, nearest-same}
 
 -- what is not an infinity
 under : (s : Bool) (q k : ℕ) → finite (units binary64 s q k) ≡ true → q * 2 ^ k < overflow binary64
@@ -131,31 +132,62 @@ over-once (fin s m e) (fin t n d) g f = go (eqb n 0) (eqb-false n 0) f
     go true h f = neither (eqb m 0) (unlike s t) (subst T (sym f) tt)
     go false h f = rounded (unlike s t) (m * up e * down d) (n * up d * down e) (mul-pos (mul-pos (some (h refl)) (up-pos d)) (down-pos e)) f
 
--- ---- by whole numbers
+-- ---- the same exact value, a / c and b / d
 
--- what the two numbers of the exact value share goes
-shared : {x : Float} {s : Bool} (a c d : ℕ) → 0 < d → Once x s (a * d) (c * d) → Once x s a c
-shared {x} {s} a c d P o = record {
-  digits = o .digits;
-  step = o .step;
-  value = o .value;
-  near = nearest-shared (pos (a * 2 ^ 1074)) (c * 2 ^ o .step) d (pos (o .digits)) P (subst (λ (n : ℕ). NearestTo (pos (a * 2 ^ 1074 * d)) n (pos (o .digits))) under-d (subst (λ (n : ℕ). NearestTo (pos n) (c * d * 2 ^ o .step) (pos (o .digits))) over-d (o .near)));
-  below = lt-of-mul-lt-mul-right d (subst (λ (n : ℕ). n < 2 ^ 53 * (c * 2 ^ o .step) * d) over-d (subst (λ (n : ℕ). a * d * 2 ^ 1074 < n) (steps (2 ^ 53)) (o .below)));
-  least = go (o .least);
-}
+module _ (a b c d : ℕ) (C : 0 < c) (D : 0 < d) (p : a * d ≡ b * c) where
+  tops : (w : ℕ) → a * w * d ≡ b * w * c
+  tops w = mul-right-comm a w d ∙ ap (λ (n : ℕ). n * w) p ∙ mul-right-comm b c w
+
+  bottoms : (n w : ℕ) → n * (c * w) * d ≡ n * (d * w) * c
+  bottoms n w =
+      mul-assoc n (c * w) d
+      ∙ ap (λ (m : ℕ). n * m) (mul-right-comm c w d ∙ ap (λ (m : ℕ). m * w) (mul-comm c d) ∙ mul-right-comm d c w)
+      ∙ sym (mul-assoc n (d * w) c)
+
+  pub once-same : {x : Float} {s : Bool} → Once x s a c → Once x s b d
+  once-same o = record {
+    digits = o .digits;
+    step = o .step;
+    value = o .value;
+    near = nearest-same (pos (a * 2 ^ 1074)) (pos (b * 2 ^ 1074)) (c * 2 ^ o .step) (d * 2 ^ o .step) (pos (o .digits)) (mul-pos C (pow-pos (o .step))) (mul-pos D (pow-pos (o .step))) (ap pos across) (o .near);
+    below = lt-of-mul-lt-mul-right c (subst (λ (n : ℕ). n < 2 ^ 53 * (d * 2 ^ o .step) * c) (tops (2 ^ 1074)) (subst (λ (n : ℕ). a * 2 ^ 1074 * d < n) (bottoms (2 ^ 53) (2 ^ o .step)) (mul-lt-mul-of-pos-right (o .below) D)));
+    least = go (o .least);
+  }
+    where
+      across : a * 2 ^ 1074 * (d * 2 ^ o .step) ≡ b * 2 ^ 1074 * (c * 2 ^ o .step)
+      across = sym (mul-assoc (a * 2 ^ 1074) d (2 ^ o .step)) ∙ ap (λ (n : ℕ). n * 2 ^ o .step) (tops (2 ^ 1074)) ∙ mul-assoc (b * 2 ^ 1074) c (2 ^ o .step)
+
+      go : (o .step ≡ 0) ⊎ (2 ^ 52 * (c * 2 ^ o .step) ≤ a * 2 ^ 1074) → (o .step ≡ 0) ⊎ (2 ^ 52 * (d * 2 ^ o .step) ≤ b * 2 ^ 1074)
+      go (inl e) = inl e
+      go (inr h) = inr (le-of-mul-le-mul-right (subst (λ (n : ℕ). 2 ^ 52 * (d * 2 ^ o .step) * c ≤ n) (tops (2 ^ 1074)) (subst (λ (n : ℕ). n ≤ a * 2 ^ 1074 * d) (bottoms (2 ^ 52) (2 ^ o .step)) (mul-le-mul-right d h))) C)
+
+valued : (x : Float) (s : Bool) (a c : ℕ) → HasValue x s a c → (isNegative x ≡ s) × (num x * c ≡ a * den x)
+valued nan s a c v = absurd v
+valued (inf t) s a c v = absurd v
+valued (fin t m e) s a c v = v
+
+-- two floats of one value
+pub once-valued : (a b c d : ℕ) → 0 < c → 0 < d → a * d ≡ b * c → {x y : Float} {s : Bool} → Once x s a c → Once y s b d → (isNegative x ≡ isNegative y) × (num x * den y ≡ num y * den x)
+once-valued a b c d C D p {x} {y} {s} o q = (u .0 ∙ sym (v .0), eq-of-mul-eq-mul-right (2 ^ 1074) (pow-pos 1074) (num x * den y) (num y * den x) across)
   where
-    over-d : a * d * 2 ^ 1074 ≡ a * 2 ^ 1074 * d
-    over-d = mul-right-comm a d (2 ^ 1074)
+    K : ℕ
+    K = q .digits * 2 ^ q .step
 
-    under-d : c * d * 2 ^ o .step ≡ c * 2 ^ o .step * d
-    under-d = mul-right-comm c d (2 ^ o .step)
+    u : (isNegative x ≡ s) × (num x * 2 ^ 1074 ≡ K * den x)
+    u =
+        let r = once-same a b c d C D p o in
+        let e = once-one x y s b d D r q in
+        valued x s K (2 ^ 1074) (subst (λ (n : ℕ). HasValue x s n (2 ^ 1074)) (λ i. e .1 i * 2 ^ (e .0 i)) (r .value))
 
-    steps : (n : ℕ) → n * (c * d * 2 ^ o .step) ≡ n * (c * 2 ^ o .step) * d
-    steps n = ap (λ (m : ℕ). n * m) under-d ∙ sym (mul-assoc n (c * 2 ^ o .step) d)
+    v : (isNegative y ≡ s) × (num y * 2 ^ 1074 ≡ K * den y)
+    v = valued y s K (2 ^ 1074) (q .value)
 
-    go : (o .step ≡ 0) ⊎ (2 ^ 52 * (c * d * 2 ^ o .step) ≤ a * d * 2 ^ 1074) → (o .step ≡ 0) ⊎ (2 ^ 52 * (c * 2 ^ o .step) ≤ a * 2 ^ 1074)
-    go (inl e) = inl e
-    go (inr h) = inr (le-of-mul-le-mul-right (subst (λ (n : ℕ). 2 ^ 52 * (c * 2 ^ o .step) * d ≤ n) over-d (subst (λ (n : ℕ). n ≤ a * d * 2 ^ 1074) (steps (2 ^ 52)) h)) P)
+    across : num x * den y * 2 ^ 1074 ≡ num y * den x * 2 ^ 1074
+    across =
+        mul-right-comm (num x) (den y) (2 ^ 1074) ∙ ap (λ (n : ℕ). n * den y) (u .1) ∙ mul-right-comm K (den x) (den y)
+        ∙ ap (λ (n : ℕ). n * den x) (sym (v .1)) ∙ mul-right-comm (num y) (2 ^ 1074) (den x)
+
+-- ---- by whole numbers
 
 -- by a number that is not negative
 plain : (s t : Bool) → t ≡ false → unlike s t ≡ s
@@ -167,17 +199,28 @@ module _ (x : Float) (k : ℕ) where
   times-number nan v f = absurd v
   times-number (inf t) v f = absurd v
   times-number (fin t m e) (p, q) f =
-      shared (num x * k) (den x) (down e) (down-pos e)
-      (subst (λ (n : ℕ). Once (mul binary64 x (fin t m e)) (isNegative x) n (den x * down e)) (ap (λ (n : ℕ). num x * n) (sym (mul-one (m * up e)) ∙ q) ∙ sym (mul-assoc (num x) k (down e)))
-      (subst (λ (s : Bool). Once (mul binary64 x (fin t m e)) s (num x * (m * up e)) (den x * down e)) (plain (isNegative x) t p) (times-once x (fin t m e) f)))
+      once-same (num x * (m * up e)) (num x * k) (den x * down e) (den x) (mul-pos (den-pos x) (down-pos e)) (den-pos x) across
+      (subst (λ (s : Bool). Once (mul binary64 x (fin t m e)) s (num x * (m * up e)) (den x * down e)) (plain (isNegative x) t p) (times-once x (fin t m e) f))
+    where
+      across : num x * (m * up e) * den x ≡ num x * k * (den x * down e)
+      across =
+          ap (λ (n : ℕ). num x * n * den x) (sym (mul-one (m * up e)) ∙ q) ∙ ap (λ (n : ℕ). n * den x) (sym (mul-assoc (num x) k (down e)))
+          ∙ mul-assoc (num x * k) (down e) (den x) ∙ ap (λ (n : ℕ). num x * k * n) (mul-comm (down e) (den x))
 
-  over-number : (y : Float) → HasValue y false k 1 → finite (div binary64 x y) ≡ true → Once (div binary64 x y) (isNegative x) (num x) (k * den x)
-  over-number nan v f = absurd v
-  over-number (inf t) v f = absurd v
-  over-number (fin t m e) (p, q) f =
-      shared (num x) (k * den x) (down e) (down-pos e)
-      (subst (λ (n : ℕ). Once (div binary64 x (fin t m e)) (isNegative x) (num x * down e) n) (ap (λ (n : ℕ). n * den x) (sym (mul-one (m * up e)) ∙ q) ∙ mul-right-comm k (down e) (den x))
-      (subst (λ (s : Bool). Once (div binary64 x (fin t m e)) s (num x * down e) (m * up e * den x)) (plain (isNegative x) t p) (over-once x (fin t m e) refl f)))
+  over-number : 0 < k → (y : Float) → HasValue y false k 1 → finite (div binary64 x y) ≡ true → Once (div binary64 x y) (isNegative x) (num x) (k * den x)
+  over-number K nan v f = absurd v
+  over-number K (inf t) v f = absurd v
+  over-number K (fin t m e) (p, q) f =
+      once-same (num x * down e) (num x) (m * up e * den x) (k * den x) (mul-pos (subst (λ (n : ℕ). 0 < n) (sym whole) (mul-pos K (down-pos e))) (den-pos x)) (mul-pos K (den-pos x)) across
+      (subst (λ (s : Bool). Once (div binary64 x (fin t m e)) s (num x * down e) (m * up e * den x)) (plain (isNegative x) t p) (over-once x (fin t m e) refl f))
+    where
+      whole : m * up e ≡ k * down e
+      whole = sym (mul-one (m * up e)) ∙ q
+
+      across : num x * down e * (k * den x) ≡ num x * (m * up e * den x)
+      across =
+          mul-assoc (num x) (down e) (k * den x)
+          ∙ ap (λ (n : ℕ). num x * n) (sym (mul-assoc (down e) k (den x)) ∙ ap (λ (n : ℕ). n * den x) (mul-comm (down e) k ∙ sym whole))
 
 -- ---- a shot
 
@@ -188,9 +231,9 @@ float-exact k h = round-whole binary64 false k h
 pub metres-once : (x : Float) → finite (ofMetres x) ≡ true → Once (ofMetres x) (isNegative x) (num x * 1000) (den x)
 metres-once x f = times-number x 1000 (float 1000) (float-exact 1000 (omega arith)) f
 
-pub feet-once : (t o : ℕ) → t ≤ 2 ^ 53 → o ≤ 2 ^ 53 → (x : Float) → finite (ofFeet (factors t o) x) ≡ true → ByFactors t o x (ofFeet (factors t o) x)
-feet-once t o h g x f = record {
+pub feet-once : (t o : ℕ) → t ≤ 2 ^ 53 → o ≤ 2 ^ 53 → 0 < o → (x : Float) → finite (ofFeet (factors t o) x) ≡ true → ByFactors t o x (ofFeet (factors t o) x)
+feet-once t o h g O x f = record {
   product = multiplied (factors t o) x;
   first = times-number x t (float t) (float-exact t h) (is-true (finite (multiplied (factors t o) x)) (div-first binary64 (multiplied (factors t o) x) (float o) (subst T (sym f) tt)));
-  then = over-number (multiplied (factors t o) x) o (float o) (float-exact o g) f;
+  then = over-number (multiplied (factors t o) x) o O (float o) (float-exact o g) f;
 }

@@ -4,6 +4,7 @@
 --   FromMetres x n       x metres are n millimetres: times 1000, rounded once to a float, and n is the whole number nearest to that
 --   FromFeet t o x n     x feet are n millimetres: times t, over o, each rounded once to a float, and n is the whole number nearest to the last
 --   TakenAt t o s c i    so it is of the shot s with x and y number i of c, by the unit of s: no operation is in it
+--   Edition e t o        the edition e multiplies feet by t and divides by o
 --
 -- The theorems: proofs/Promises. Source: document 02, E2, E13.
 use mathlib.Core.List.{List}
@@ -31,3 +32,7 @@ FromFeet t o x n = (y : Float) × ByFactors t o x y × Nearest y n
 abbrev pub TakenAt : ℕ → ℕ → Shot → List ℤ → ℕ → Type 0
 TakenAt t o (Metres e n) c i = FromMetres e (xOf c i) × FromMetres n (yOf c i)
 TakenAt t o (Feet e n) c i = FromFeet t o e (xOf c i) × FromFeet t o n (yOf c i)
+
+pub data Edition : ℕ → ℕ → ℕ → Type 0 where
+  survey : Edition 1 1200000 3937
+  international : Edition 2 3048 10
