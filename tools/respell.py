@@ -1,7 +1,7 @@
 #!/usr/bin/env python3
 """Brings the names of definitions and lemmas to today's spelling, once, after port.py: tools/respell.py [FOLDER].
 
-A definition's name in camel case becomes one in snake case (`sidesOf`: `sides_of`). In a lemma's name a dash between words becomes an underscore (`tabulate-in`: `tabulate_in`); in a name of two words,
+A definition's name in camel case becomes one in snake case (`sidesOf`: `sides_of`). In the name of a lemma or a field a dash between words becomes an underscore (`tabulate-in`: `tabulate_in`); in a name of two words,
 one before the name of a definition or of a function of the library stays (`sum-map`, `reflects-any`). A name that would fall together with another one stays as it is, but for those
 listed below. Functions of src/ keep their names, as do types, modules, files, strings and the answers of a function's proof. Pages are not read; must-fail edits are.
 """
@@ -67,18 +67,22 @@ def rename(name, to, makes_way=False):
     if to == name:
         return
     if to in taken and not (to in functions and to not in declared):
-        if not (makes_way and to in declared and to not in defined and f"{to}_lem" not in taken):
+        if not (makes_way and to in declared and to not in defined and to not in functions and f"{to}_lem" not in taken):
             clashes.append((name, to))
             return
         renamed[to] = f"{to}_lem"
         taken.add(f"{to}_lem")
     renamed[name] = to
     taken.add(to)
+    declared.add(to)
 
 
 clashes = []
 # a field of two records elsewhere has that name too
 renamed["doneAt"] = "done_at"
+# a function of src/ has that name too, and one file a law of its own
+renamed["sameAt"] = "same_at"
+OWN = {"crates/shots/proofs/Decided.antt": {"same_at": "same_at_lem"}}
 camel = sorted(n for n in defined | lemmas if "-" not in n and re.match(r"[a-z][a-z0-9_]*[A-Z]", n) and snake(n) != n and snake(n).lower() == snake(n))
 for name in camel:
     if name in renamed:
@@ -97,7 +101,7 @@ def joined(name):
     return out
 
 
-for name in sorted(lemmas):
+for name in sorted(lemmas | defined):
     if "-" in name and re.match(r"[a-z]", name):
         rename(name, joined(name))
 
@@ -113,6 +117,7 @@ if __name__ == "__main__":
         if path.endswith(".edit"):
             continue
         names = renamed if path.endswith(".antt") else {a: b for a, b in renamed.items() if "-" not in a}
+        names = names | OWN.get(os.path.relpath(path, ROOT), {})
         new = TOKEN.sub(lambda m: names.get(m.group(), m.group()), body)
         if new != body:
             open(path, "w", encoding="utf-8").write(new)

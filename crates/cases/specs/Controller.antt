@@ -29,29 +29,29 @@ below-nought = fin true 0 (pos 0)
 abbrev sixteenth : Float
 sixteenth = fin false 1 (negsuc 3)
 
-abbrev three-sixteenths : Float
-three-sixteenths = fin false 3 (negsuc 3)
+abbrev three_sixteenths : Float
+three_sixteenths = fin false 3 (negsuc 3)
 
 -- 3937 / 256 and three times that, in US survey feet 4687.5 mm and 14062.5 mm; 3937 / 2, in those 600000 mm
-abbrev foot-half : Float
-foot-half = fin false 3937 (negsuc 7)
+abbrev foot_half : Float
+foot_half = fin false 3937 (negsuc 7)
 
-abbrev three-foot-halves : Float
-three-foot-halves = fin false 11811 (negsuc 7)
+abbrev three_foot_halves : Float
+three_foot_halves = fin false 11811 (negsuc 7)
 
-abbrev far-foot : Float
-far-foot = fin false 3937 (negsuc 0)
+abbrev far_foot : Float
+far_foot = fin false 3937 (negsuc 0)
 
 -- 5 / 8 and three times that, in international feet 190.5 mm and 571.5 mm
 abbrev other_half : Float
 other_half = fin false 5 (negsuc 2)
 
-abbrev three-other-halves : Float
-three-other-halves = fin false 15 (negsuc 2)
+abbrev three_other_halves : Float
+three_other_halves = fin false 15 (negsuc 2)
 
 -- 3000, in US survey feet 914401.83 mm and in international feet 914400 mm
-abbrev three-thousand : Float
-three-thousand = fin false 375 (pos 3)
+abbrev three_thousand : Float
+three_thousand = fin false 375 (pos 3)
 
 -- 419947 / 128, in US survey feet 1000000.79 mm and in international feet 999998.79 mm
 abbrev edge : Float
@@ -84,35 +84,35 @@ given = given_in 1
 abbrev origin : Shot
 origin = Metres nought nought
 
-abbrev metre-east : Shot
-metre-east = Metres (fin false 1 (pos 0)) nought
+abbrev metre_east : Shot
+metre_east = Metres (fin false 1 (pos 0)) nought
 
 abbrev pub controller : List Given
 controller =
-    given origin metre-east (Metres nought (fin false 1 (pos 0))) (three (pos 0) (pos 0) (pos 1000) (pos 0) (pos 0) (pos 1000))
-    ∷ given origin (Feet far-foot nought) (Metres below-nought (fin false 1 (negsuc 0))) (three (pos 0) (pos 0) (pos 600000) (pos 0) (pos 0) (pos 500))
-    ∷ given origin (Metres sixteenth three-sixteenths) (Metres (fin true 1 (negsuc 3)) (fin true 3 (negsuc 3))) (refused 4)
-    ∷ given metre-east (Metres sixteenth three-sixteenths) (Metres (fin true 1 (negsuc 3)) (fin true 3 (negsuc 3))) (three (pos 1000) (pos 0) (pos 62) (pos 188) (negsuc 61) (negsuc 187))
-    ∷ given metre-east (Feet foot-half three-foot-halves) (Feet (fin true 3937 (negsuc 7)) (fin true 11811 (negsuc 7))) (three (pos 1000) (pos 0) (pos 4688) (pos 14062) (negsuc 4687) (negsuc 14061))
-    ∷ record { edition = 1; shots = front origin metre-east origin; count = 2; stated = refused 1 }
-    ∷ record { edition = 1; shots = front origin metre-east origin; count = 11; stated = refused 1 }
-    ∷ given origin metre-east (Metres nan nought) (refused 16)
-    ∷ given origin metre-east (Feet nought (inf true)) (refused 16)
-    ∷ given origin metre-east (Feet huge nought) (refused 16)
-    ∷ given origin metre-east (Metres huge nought) (refused 2)
-    ∷ given origin metre-east (Metres huge nan) (refused 16)
+    given origin metre_east (Metres nought (fin false 1 (pos 0))) (three (pos 0) (pos 0) (pos 1000) (pos 0) (pos 0) (pos 1000))
+    ∷ given origin (Feet far_foot nought) (Metres below-nought (fin false 1 (negsuc 0))) (three (pos 0) (pos 0) (pos 600000) (pos 0) (pos 0) (pos 500))
+    ∷ given origin (Metres sixteenth three_sixteenths) (Metres (fin true 1 (negsuc 3)) (fin true 3 (negsuc 3))) (refused 4)
+    ∷ given metre_east (Metres sixteenth three_sixteenths) (Metres (fin true 1 (negsuc 3)) (fin true 3 (negsuc 3))) (three (pos 1000) (pos 0) (pos 62) (pos 188) (negsuc 61) (negsuc 187))
+    ∷ given metre_east (Feet foot_half three_foot_halves) (Feet (fin true 3937 (negsuc 7)) (fin true 11811 (negsuc 7))) (three (pos 1000) (pos 0) (pos 4688) (pos 14062) (negsuc 4687) (negsuc 14061))
+    ∷ record { edition = 1; shots = front origin metre_east origin; count = 2; stated = refused 1 }
+    ∷ record { edition = 1; shots = front origin metre_east origin; count = 11; stated = refused 1 }
+    ∷ given origin metre_east (Metres nan nought) (refused 16)
+    ∷ given origin metre_east (Feet nought (inf true)) (refused 16)
+    ∷ given origin metre_east (Feet huge nought) (refused 16)
+    ∷ given origin metre_east (Metres huge nought) (refused 2)
+    ∷ given origin metre_east (Metres huge nan) (refused 16)
     ∷ given origin (Metres nought huge) (Metres nan nought) (refused 2)
-    ∷ given origin metre-east (Metres (fin false 1 (negsuc 10)) below-nought) (refused 3)
-    ∷ given_in 1 metre-east (Feet three-thousand nought) (Feet nought (fin true 375 (pos 3))) (three (pos 1000) (pos 0) (pos 914402) (pos 0) (pos 0) (negsuc 914401))
-    ∷ given_in 2 metre-east (Feet three-thousand nought) (Feet nought (fin true 375 (pos 3))) (three (pos 1000) (pos 0) (pos 914400) (pos 0) (pos 0) (negsuc 914399))
-    ∷ given_in 2 metre-east (Feet other_half three-other-halves) (Feet (fin true 5 (negsuc 2)) (fin true 15 (negsuc 2))) (three (pos 1000) (pos 0) (pos 190) (pos 572) (negsuc 189) (negsuc 571))
-    ∷ given_in 2 metre-east (Metres sixteenth three-sixteenths) (Metres (fin true 1 (negsuc 3)) (fin true 3 (negsuc 3))) (three (pos 1000) (pos 0) (pos 62) (pos 188) (negsuc 61) (negsuc 187))
-    ∷ given_in 1 origin metre-east (Feet nought edge) (refused 2)
-    ∷ given_in 2 origin metre-east (Feet nought edge) (three (pos 0) (pos 0) (pos 1000) (pos 0) (pos 0) (pos 999999))
-    ∷ given_in 2 origin metre-east (Feet huge nought) (refused 2)
-    ∷ given_in 2 origin metre-east (Feet (fin false 1 (pos 1014)) nought) (refused 16)
-    ∷ record { edition = 2; shots = front origin metre-east origin; count = 2; stated = refused 1 }
-    ∷ given_in 0 origin metre-east (Metres nought (fin false 1 (pos 0))) (refused 17)
-    ∷ given_in 3 origin metre-east (Metres nan nought) (refused 17)
-    ∷ record { edition = 257; shots = front origin metre-east origin; count = 2; stated = refused 17 }
+    ∷ given origin metre_east (Metres (fin false 1 (negsuc 10)) below-nought) (refused 3)
+    ∷ given_in 1 metre_east (Feet three_thousand nought) (Feet nought (fin true 375 (pos 3))) (three (pos 1000) (pos 0) (pos 914402) (pos 0) (pos 0) (negsuc 914401))
+    ∷ given_in 2 metre_east (Feet three_thousand nought) (Feet nought (fin true 375 (pos 3))) (three (pos 1000) (pos 0) (pos 914400) (pos 0) (pos 0) (negsuc 914399))
+    ∷ given_in 2 metre_east (Feet other_half three_other_halves) (Feet (fin true 5 (negsuc 2)) (fin true 15 (negsuc 2))) (three (pos 1000) (pos 0) (pos 190) (pos 572) (negsuc 189) (negsuc 571))
+    ∷ given_in 2 metre_east (Metres sixteenth three_sixteenths) (Metres (fin true 1 (negsuc 3)) (fin true 3 (negsuc 3))) (three (pos 1000) (pos 0) (pos 62) (pos 188) (negsuc 61) (negsuc 187))
+    ∷ given_in 1 origin metre_east (Feet nought edge) (refused 2)
+    ∷ given_in 2 origin metre_east (Feet nought edge) (three (pos 0) (pos 0) (pos 1000) (pos 0) (pos 0) (pos 999999))
+    ∷ given_in 2 origin metre_east (Feet huge nought) (refused 2)
+    ∷ given_in 2 origin metre_east (Feet (fin false 1 (pos 1014)) nought) (refused 16)
+    ∷ record { edition = 2; shots = front origin metre_east origin; count = 2; stated = refused 1 }
+    ∷ given_in 0 origin metre_east (Metres nought (fin false 1 (pos 0))) (refused 17)
+    ∷ given_in 3 origin metre_east (Metres nan nought) (refused 17)
+    ∷ record { edition = 257; shots = front origin metre_east origin; count = 2; stated = refused 17 }
     ∷ []

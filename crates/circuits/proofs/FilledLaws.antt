@@ -125,7 +125,7 @@ poured_worked l few p₀ m₀ p m r h k e =
     let f = circuits-most l few in
     record {
       counted = c;
-      plus-room = let a = ap (λ (g : Filled). length g.plus) e ∙ (pour_lengths (filled p₀ m₀ 0) (circuits_of l)).0 in omega arith;
-      minus-room = let b = ap (λ (g : Filled). length g.minus) e ∙ (pour_lengths (filled p₀ m₀ 0) (circuits_of l)).1 in omega arith;
+      plus_room = let a = ap (λ (g : Filled). length g.plus) e ∙ (pour_lengths (filled p₀ m₀ 0) (circuits_of l)).0 in omega arith;
+      minus_room = let b = ap (λ (g : Filled). length g.minus) e ∙ (pour_lengths (filled p₀ m₀ 0) (circuits_of l)).1 in omega arith;
       sides = λ z s. poured_at p m p₀ m₀ r (circuits_of l) e (record { plus = []; minus = [] }) z (omega arith) (omega arith) (omega arith);
     }

@@ -33,6 +33,6 @@ Fits f k = (f.next + k ≤ length f.plus) × (f.next + k ≤ length f.minus)
 
 pub record Worked (l : List ℤ) (plus minus : List ℕ) (count : ℕ) : Type 0 where
   pub counted : count ≡ length (circuits_of l)
-  pub plus-room : count ≤ length plus
-  pub minus-room : count ≤ length minus
+  pub plus_room : count ≤ length plus
+  pub minus_room : count ≤ length minus
   pub sides : (z : ℕ) → z < count → (slice_index plus z ≡ (masks (circuit_at l z)).plus) × (slice_index minus z ≡ (masks (circuit_at l z)).minus)

@@ -1,6 +1,6 @@
 -- The shots in turn: the number of one shot, and what the rules say of those that are left.
 --
---   shot_number        the number that refuses a shot is the larger of its two numbers
+--   shot-number        the number that refuses a shot is the larger of its two numbers
 --   Kept foot l n i    a loop that looks for a refused shot of the first n has come to i; `turn_kept`, `turn_broken`, `turns_end`: it goes on, has found one, has found none
 --   Writes, Rest       one that writes their coordinates has; `writes_none`, `writes-turn`, `writes_end`, `rest_fine`, `rest_on`: it begins, goes on, has written all
 --   turns_numbered     the rules have numbers that are not 0
@@ -48,9 +48,9 @@ larger false true f true = refl
 larger false true f false = refl
 larger false false f g = refl
 
-pub shot_number : (foot : Foot) (s : Shot) → let e = number_at (scaled_of foot s).east in let n = number_at (scaled_of foot s).north in shot_number foot s ≡ cond (ltb e n) n e
+pub shot-number : (foot : Foot) (s : Shot) → let e = number_at (scaled_of foot s).east in let n = number_at (scaled_of foot s).north in shot_number foot s ≡ cond (ltb e n) n e
 unfolding shot_number refusal number_at
-shot_number foot s =
+shot-number foot s =
     let e = (scaled_of foot s).east in
     let n = (scaled_of foot s).north in
     ap (λ (b : Bool). cond b 16 (cond (far_off e || far_off n) 2 0)) (last_tells foot s)

@@ -55,8 +55,8 @@ module _ (l : List ℤ) (few : count_of l ≤ shots_most) (p₀ m₀ p m : List 
   all_prepared t₀ t₁ t₂ t₃ {w} {t₄} g a b s f n room d q =
       record {
         holding = λ k u. late k (omega arith) ∙ b.there k (omega arith) ∙ a.there k (omega arith) ∙ g k u;
-        over-plus = λ z u. late (plus_row z) (low z u).0 ∙ b.there (plus_row z) (low z u).1 ∙ plus_rows t₀ t₁ a z u;
-        over-minus = λ z u. late (minus_row z) (low z u).2 ∙ minus_rows t₁ t₂ b z u;
+        over_plus = λ z u. late (plus_row z) (low z u).0 ∙ b.there (plus_row z) (low z u).1 ∙ plus_rows t₀ t₁ a z u;
+        over_minus = λ z u. late (minus_row z) (low z u).2 ∙ minus_rows t₁ t₂ b z u;
         edges = λ j u i v. put_below solid_row t₃ w n q (inner_row i j) (omega arith) ∙ f j u i v;
         solid = ap (λ (t : List ℕ). row_of word_count t solid_row) q ∙ row_same word_count t₃ solid_row w n (omega arith) ∙ d;
       }

@@ -68,8 +68,8 @@ Inner l t = InnerBelow l (count_of l) t
 
 pub record Prepared (l : List ℤ) (held : List ℕ) : Type 0 where
   pub holding : Holding (count_of l) held
-  pub over-plus : AroundPlus l held
-  pub over-minus : AroundMinus l held
+  pub over_plus : AroundPlus l held
+  pub over_minus : AroundMinus l held
   pub edges : Inner l held
   pub solid : row_of word_count held solid_row ≡ solid_of l
 

@@ -29,15 +29,15 @@ between_iff m p q e ne = (into, out)
     into h = record {
       u = dot m q q;
       v = neg_ℤ (dot m p q);
-      u-pos = dot_pos m q (λ z. ne (sym z));
-      v-pos = h;
+      u_pos = dot_pos m q (λ z. ne (sym z));
+      v_pos = h;
       xs = ring (coordinates (m ∷ p ∷ q ∷ [])) (O 0 2 2 ⊗ (X 1 ⊝ X 0) ⊕ neg (O 0 1 2) ⊗ (X 2 ⊝ X 0)) ((Y 2 ⊝ Y 0) ⊗ D 0 1 2) tt ∙ mul-zero (q.y -ℤ m.y) e;
       ys = ring (coordinates (m ∷ p ∷ q ∷ [])) (O 0 2 2 ⊗ (Y 1 ⊝ Y 0) ⊕ neg (O 0 1 2) ⊗ (Y 2 ⊝ Y 0)) ((X 0 ⊝ X 2) ⊗ D 0 1 2) tt ∙ mul-zero (m.x -ℤ q.x) e;
     }
 
     -- the two balances times q - m add up to u (dot m p q) + v |q - m|²
     out : Between m p q → Neg (dot m p q)
-    out b = pos_of_mul b.u-pos (pos_cast is (pos-mul b.v-pos (dot_pos m q (λ z. ne (sym z)))))
+    out b = pos_of_mul b.u_pos (pos_cast is (pos-mul b.v_pos (dot_pos m q (λ z. ne (sym z)))))
       where
         is : b.v *ℤ dot m q q ≡ b.u *ℤ neg_ℤ (dot m p q)
         is = sub-zero→eq (b.v *ℤ dot m q q) (b.u *ℤ neg_ℤ (dot m p q))
@@ -50,8 +50,8 @@ pub between_turned : (m p q : Point) → Between m p q → Between m q p
 between_turned m p q b = record {
   u = b.v;
   v = b.u;
-  u-pos = b.v-pos;
-  v-pos = b.u-pos;
+  u_pos = b.v_pos;
+  v_pos = b.u_pos;
   xs = +ℤ_comm (b.v *ℤ (q.x -ℤ m.x)) (b.u *ℤ (p.x -ℤ m.x)) ∙ b.xs;
   ys = +ℤ_comm (b.v *ℤ (q.y -ℤ m.y)) (b.u *ℤ (p.y -ℤ m.y)) ∙ b.ys;
 }

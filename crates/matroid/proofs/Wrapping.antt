@@ -63,23 +63,23 @@ module _ (P : Points) (d : Point) where
   ahead_between p q k e h l = record {
     u = ahead k q;
     v = ahead p k;
-    u-pos = l;
-    v-pos = h;
+    u_pos = l;
+    v_pos = h;
     xs = ring (ρ p q k k (pos 0) (pos 0)) (A 2 1 ⊗ (X 0 ⊝ X 2) ⊕ A 0 2 ⊗ (X 1 ⊝ X 2)) (Y 4 ⊗ D 0 1 2) tt ∙ mul-zero d.y e;
     ys = ring (ρ p q k k (pos 0) (pos 0)) (A 2 1 ⊗ (Y 0 ⊝ Y 2) ⊕ A 0 2 ⊗ (Y 1 ⊝ Y 2)) (neg (X 4) ⊗ D 0 1 2) tt ∙ mul-zero (neg_ℤ d.x) e;
   }
 
   ahead_inside : (p q k : ℕ) → Pos (ahead p q) → Between (P k) (P p) (P q) → Pos (ahead p k) × Pos (ahead k q)
   ahead_inside p q k h b = (
-    pos_of_mul sum (pos_cast (sym (balanced (ring e (U ⊗ A 0 2) (Y 5 ⊗ A 0 1 ⊕ (neg (X 4) ⊗ xs ⊕ neg (Y 4) ⊗ ys)) tt) (both_zero (neg_ℤ d.x) (neg_ℤ d.y) b.xs b.ys))) (pos-mul b.v-pos h)),
-    pos_of_mul sum (pos_cast (sym (balanced (ring e (U ⊗ A 2 1) (X 5 ⊗ A 0 1 ⊕ (X 4 ⊗ xs ⊕ Y 4 ⊗ ys)) tt) (both_zero d.x d.y b.xs b.ys))) (pos-mul b.u-pos h)),
+    pos_of_mul sum (pos_cast (sym (balanced (ring e (U ⊗ A 0 2) (Y 5 ⊗ A 0 1 ⊕ (neg (X 4) ⊗ xs ⊕ neg (Y 4) ⊗ ys)) tt) (both_zero (neg_ℤ d.x) (neg_ℤ d.y) b.xs b.ys))) (pos-mul b.v_pos h)),
+    pos_of_mul sum (pos_cast (sym (balanced (ring e (U ⊗ A 2 1) (X 5 ⊗ A 0 1 ⊕ (X 4 ⊗ xs ⊕ Y 4 ⊗ ys)) tt) (both_zero d.x d.y b.xs b.ys))) (pos-mul b.u_pos h)),
   )
     where
       e : List ℤ
       e = ρ p q k k b.u b.v
 
       sum : Pos (b.u +ℤ b.v)
-      sum = pos_nn_add b.u-pos (pos_nn b.v-pos)
+      sum = pos_nn_add b.u_pos (pos_nn b.v_pos)
 
       U : Ex
       U = X 5 ⊕ Y 5

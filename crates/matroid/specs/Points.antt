@@ -26,8 +26,8 @@ turn a b c = (b.x -ℤ a.x) *ℤ (c.y -ℤ a.y) -ℤ (b.y -ℤ a.y) *ℤ (c.x -�
 pub record Between (m p q : Point) : Type 0 where
   pub u : ℤ
   pub v : ℤ
-  pub u-pos : Pos u
-  pub v-pos : Pos v
+  pub u_pos : Pos u
+  pub v_pos : Pos v
   pub xs : u *ℤ (p.x -ℤ m.x) +ℤ v *ℤ (q.x -ℤ m.x) ≡ pos 0
   pub ys : u *ℤ (p.y -ℤ m.y) +ℤ v *ℤ (q.y -ℤ m.y) ≡ pos 0
 

@@ -21,11 +21,11 @@ use native.Mathlib.Omega.{arith}
 use native.Mathlib.Nat.{mul-zero, add-mul, one-mul, add-zero, mul-le-mul_right, le_of_mul-le-mul_right, div-lt_iff_lt-mul, mul-add-div_right, mul-add-mod_self_right, div-eq_of_lt, mod-eq_of_lt, mod-lt}
 use native.Mathlib.Numerals.{add-one}
 use Rattle.algebra.proofs.LoopLaws.{last}
-use Rattle.reach.specs.Reach.{Reach, here, by-flip, Flipping, Along, Among, Closed}
+use Rattle.reach.specs.Reach.{Reach, here, by_flip, Flipping, Along, Among, Closed}
 
 pub reach_as : {F G : List ℕ → List ℕ → Type 0} {r₀ r : List ℕ} (P : List ℕ → Type 0) → ((r r' : List ℕ) → P r → F r r' → P r' × G r r') → P r₀ → Reach F r₀ r → P r × Reach G r₀ r
 reach_as P turn p here = (p, here)
-reach_as {G = G} P turn p (by-flip {r = r} {r' = r'} h f) = let (q, k) = reach_as {G = G} P turn p h in let (q', g) = turn r r' q f in (q', by-flip k g)
+reach_as {G = G} P turn p (by_flip {r = r} {r' = r'} h f) = let (q, k) = reach_as {G = G} P turn p h in let (q', g) = turn r r' q f in (q', by_flip k g)
 
 pub reach_kept : {F : List ℕ → List ℕ → Type 0} {r₀ r : List ℕ} (P : List ℕ → Type 0) → ((r r' : List ℕ) → P r → F r r' → P r') → P r₀ → Reach F r₀ r → P r
 reach_kept {F} P keeps p h = (reach_as {G = F} P (λ r r' q f. (keeps r r' q f, f)) p h).0
@@ -103,7 +103,7 @@ module _ {C : ℕ} {F : Flipping} {r₀ : List ℕ} where
         first = same 0 c.some ∙ c.first;
         below = let e = row_more n C in let p = tried_circuit n s C l in omega arith;
         once = λ i j q m h. most j n m (λ b. c.once i j q b (sym (same i (omega arith)) ∙ h ∙ same j b)) (λ e. new (i, omega arith, sym (same i (omega arith)) ∙ h ∙ ap row' e ∙ at_n));
-        reached = λ i m. most i n m (λ b. rw (same i b) (c.reached i b)) (λ e. rw (e, at_n) (by-flip (c.reached (s / C) (tried-row n s C l)) (s % C, mod-lt s (tried_circuit n s C l), f)));
+        reached = λ i m. most i n m (λ b. rw (same i b) (c.reached i b)) (λ e. rw (e, at_n) (by_flip (c.reached (s / C) (tried-row n s C l)) (s % C, mod-lt s (tried_circuit n s C l), f)));
         tried = λ k m x h. most k s m (λ b. still (c.tried k b x (rw (same (k / C) (tried-row n k C (omega arith))) at h)))
             (λ e. (n, omega arith, at_n ∙ det _ _ _ _ f (rw (e, same (s / C) (tried-row n s C l)) at h)));
       }
@@ -115,7 +115,7 @@ module _ {C : ℕ} {F : Flipping} {r₀ : List ℕ} where
 
     all_reached : s ≡ n * C → {r : List ℕ} → Reach (Along C F) r₀ r → Among row n r
     all_reached e here = (0, c.some, c.first)
-    all_reached e (by-flip {r = x} {r' = r} w (z, l, f)) =
+    all_reached e (by_flip {r = x} {r' = r} w (z, l, f)) =
         let a = all_reached e w in
         closed_neighbours a.0 z r (let h = mul-le-mul_right C a.1 in rw (add-one, e) h) l (rw a.2 f)
 

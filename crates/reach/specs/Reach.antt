@@ -17,7 +17,7 @@ use Rattle.algebra.specs.Words.{row_of}
 
 pub data Reach (F : List ℕ → List ℕ → Type 0) (r₀ : List ℕ) : List ℕ → Type 0 where
   here : Reach F r₀ r₀
-  by-flip : {r r' : List ℕ} → Reach F r₀ r → F r r' → Reach F r₀ r'
+  by_flip : {r r' : List ℕ} → Reach F r₀ r → F r r' → Reach F r₀ r'
 
 abbrev pub Flipping : Type 1
 Flipping = List ℕ → ℕ → List ℕ → Type 0

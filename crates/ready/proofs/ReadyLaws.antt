@@ -36,8 +36,8 @@ module _ (l : List ℤ) (few : count_of l ≤ shots_most) where
   prepared_kept t u s g =
       record {
         holding = rows_kept held_rows (count_of l) (holders_of (count_of l)) t u (omega arith) s g.holding;
-        over-plus = λ z h. s (plus_row z) (low z h).0 ∙ g.over-plus z h;
-        over-minus = λ z h. s (minus_row z) (low z h).1 ∙ g.over-minus z h;
+        over_plus = λ z h. s (plus_row z) (low z h).0 ∙ g.over_plus z h;
+        over_minus = λ z h. s (minus_row z) (low z h).1 ∙ g.over_minus z h;
         edges = λ j h i k. s (inner_row i j) (omega arith) ∙ g.edges j h i k;
         solid = s solid_row (omega arith) ∙ g.solid;
       }
@@ -58,9 +58,9 @@ module _ (l : List ℤ) (few : count_of l ≤ shots_most) where
         let c = a.lengths in
         let d = b.lengths in
         record {
-          plus-room = x;
-          minus-room = y;
-          held-room = omega arith;
+          plus_room = x;
+          minus_room = y;
+          held_room = omega arith;
           sides = sided;
           tests = prepared_kept t₁ t₂ (λ i h. b.there i (omega arith)) (prepared_kept t₀ t₁ a.there g);
           stars = starred;

@@ -35,9 +35,9 @@ Starred l t =
     × (row_of word_count t (minus_star_row z) ≡ star_of (count_of l) (masks (circuit_at l z)).minus (shots_mask l z))
 
 pub record Ready (l : List ℤ) (plus minus held : List ℕ) : Type 0 where
-  pub plus-room : circuits_most ≤ length plus
-  pub minus-room : circuits_most ≤ length minus
-  pub held-room : word_count * ready_rows ≤ length held
+  pub plus_room : circuits_most ≤ length plus
+  pub minus_room : circuits_most ≤ length minus
+  pub held_room : word_count * ready_rows ≤ length held
   pub sides : Sided l plus minus
   pub tests : Prepared l held
   pub stars : Starred l held

@@ -18,7 +18,7 @@
 --   patch_framed, surface_framed            what the frames say where they are not refused
 --   coordinates-length   how many coordinates a patch record has
 --   coordinates_kept     they are a patch where no rule of the record is broken
---   in_form, within_decided, bad_decided    the tests of a triple
+--   in-form, within_decided, bad_decided    the tests of a triple
 use mathlib.Core.Path.{◌≡◌, refl, sym, ◌∙◌, ap}
 use mathlib.Core.Logic.{◌⊎◌, ◌↔◌}
 use mathlib.Core.Bool.{Bool, true, false, cond, not}
@@ -198,9 +198,9 @@ coordinates_kept b (_, (_, (q, (_, u)))) = (count_test (coordinates_of b) (get_o
 
 -- ---- triples
 
-pub in_form : (n i j k : ℕ) → Reflects (Within 0 (i ∷ j ∷ k ∷ []) n) (in_form n i j k)
+pub in-form : (n i j k : ℕ) → Reflects (Within 0 (i ∷ j ∷ k ∷ []) n) (in_form n i j k)
 unfolding in_form
-in_form n i j k = reflects_iff (into, out) (reflects-and (reflects_ltb i j) (reflects-and (reflects_ltb j k) (reflects_ltb k n)))
+in-form n i j k = reflects_iff (into, out) (reflects-and (reflects_ltb i j) (reflects-and (reflects_ltb j k) (reflects_ltb k n)))
   where
     into : (i < j) × ((j < k) × (k < n)) → Within 0 (i ∷ j ∷ k ∷ []) n
     into (p, (q, r)) = (omega arith, omega arith, (omega arith, omega arith, (omega arith, omega arith, tt)))
@@ -211,7 +211,7 @@ in_form n i j k = reflects_iff (into, out) (reflects-and (reflects_ltb i j) (ref
 module _ (n : ℕ) (b : List ℕ) (j : ℕ) where
   pub within_decided : Reflects (Within 0 (triple_in b j) n) (in_form n (get_or b (5 + 3 * j) 0) (get_or b (6 + 3 * j) 0) (get_or b (7 + 3 * j) 0))
   unfolding triple_in
-  within_decided = in_form n (get_or b (5 + 3 * j) 0) (get_or b (6 + 3 * j) 0) (get_or b (7 + 3 * j) 0)
+  within_decided = in-form n (get_or b (5 + 3 * j) 0) (get_or b (6 + 3 * j) 0) (get_or b (7 + 3 * j) 0)
 
   pub bad_decided : Reflects ((Within 0 (triple_in b j) n → ⊥) ⊎ (rank_of n (triple_in b j) < least_at n b j)) (bad_at n b j)
   unfolding bad_at

@@ -154,8 +154,8 @@ report_begins b n e =
           ∙ (λ k. patch_line (read_patch_count b n e k) (length (circuits_of l)) (tally (count_of l) (sides_of l)) (area_sum_of l (placed_of l)) ++ (row_line (read_patch_count b n e k) 0 (placed_of l)
           ++ (over (line_at (count_of l) (walk_of l (placed_of l)).table) 1 (walk_of l (placed_of l)).walk.rows ++ last_line d (walk_of l (placed_of l)).walk.rows (walk_of l (placed_of l)).walk.step)));
       row_is = placed;
-      circuits-is = (count_gives l _).1 (patch, refl);
-      sides-is = (border_gives l _).1 (patch, refl);
+      circuits_is = (count_gives l _).1 (patch, refl);
+      sides_is = (border_gives l _).1 (patch, refl);
       sides-along = ((border_counts_chains l _).0 ((border_gives l _).1 (patch, refl))).1;
-      area-is = (area_sum_says l patch (placed_of l) _).1 refl;
+      area_is = (area_sum_says l patch (placed_of l) _).1 refl;
     }

@@ -27,7 +27,7 @@ pub record FirstLines (b : List ℕ) (n : ℕ) : Type 0 where
   pub rest : List ℕ
   pub text : report_of b ≡ patch_line n circuits sides area ++ (row_line n 0 row ++ rest)
   pub row_is : placing_of (coordinates_of b) ≡ gives row
-  pub circuits-is : count_call_of (coordinates_of b) ≡ gives circuits
-  pub sides-is : border_call_of (coordinates_of b) ≡ gives sides
+  pub circuits_is : count_call_of (coordinates_of b) ≡ gives circuits
+  pub sides_is : border_call_of (coordinates_of b) ≡ gives sides
   pub sides-along : (length (south_of (coordinates_of b)) - 1) + (length (north_of (coordinates_of b)) - 1) ≡ sides
-  pub area-is : SumOfSizes (coordinates_of b) row area
+  pub area_is : SumOfSizes (coordinates_of b) row area

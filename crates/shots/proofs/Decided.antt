@@ -51,28 +51,28 @@ module _ (l : List ℤ) where
   same_at_lem j i = reflects_iff (λ e k. record { x = e.0 k; y = e.1 k }, λ e. (ap (λ (p : Point). p.x) e, ap (λ (p : Point). p.y) e))
       (reflects-and (reflects-eq_z (x_of l i) (x_of l j)) (reflects-eq_z (y_of l i) (y_of l j)))
 
-  same_before : (j : ℕ) → Reflects ((i : ℕ) × (i < j) × (point_of l i ≡ point_of l j)) (same_before l j)
+  same-before : (j : ℕ) → Reflects ((i : ℕ) × (i < j) × (point_of l i ≡ point_of l j)) (same_before l j)
   unfolding same_before
-  same_before j = reflects-any (λ i. point_of l i ≡ point_of l j) (same_at l j) j (λ i h. same_at_lem j i)
+  same-before j = reflects-any (λ i. point_of l i ≡ point_of l j) (same_at l j) j (λ i h. same_at_lem j i)
 
   pub same_decided : Reflects (Repeated l) (some_same l)
   unfolding some_same
   same_decided = reflects_iff (λ r. (r.2.0, r.0, r.2.1, r.1, r.2.2), λ r. (r.1, r.3, (r.0, r.2, r.4)))
-      (reflects-any (λ j. (i : ℕ) × (i < j) × (point_of l i ≡ point_of l j)) (same_before l) (count_of l) (λ j h. same_before j))
+      (reflects-any (λ j. (i : ℕ) × (i < j) × (point_of l i ≡ point_of l j)) (same_before l) (count_of l) (λ j h. same-before j))
 
   -- ---- all shots on one line
 
-  bent_of : (c b : ℕ) → Reflects ((a : ℕ) × (a < b) × NZ (area_of l a b c)) (bent_of l c b)
+  bent-of : (c b : ℕ) → Reflects ((a : ℕ) × (a < b) × NZ (area_of l a b c)) (bent_of l c b)
   unfolding bent_of bent_at orient_of
-  bent_of c b = reflects-any (λ a. NZ (area_of l a b c)) (bent_at l c b) b (λ a h. reflects-not (reflects-nought (area_of l a b c)))
+  bent-of c b = reflects-any (λ a. NZ (area_of l a b c)) (bent_at l c b) b (λ a h. reflects-not (reflects-nought (area_of l a b c)))
 
-  bent_before : (c : ℕ) → Reflects ((b : ℕ) × (b < c) × ((a : ℕ) × (a < b) × NZ (area_of l a b c))) (bent_before l c)
+  bent-before : (c : ℕ) → Reflects ((b : ℕ) × (b < c) × ((a : ℕ) × (a < b) × NZ (area_of l a b c))) (bent_before l c)
   unfolding bent_before
-  bent_before c = reflects-any (λ b. (a : ℕ) × (a < b) × NZ (area_of l a b c)) (bent_of l c) c (λ b h. bent_of c b)
+  bent-before c = reflects-any (λ b. (a : ℕ) × (a < b) × NZ (area_of l a b c)) (bent_of l c) c (λ b h. bent-of c b)
 
   pub bent_decided : Reflects ((c : ℕ) × (c < count_of l) × ((b : ℕ) × (b < c) × ((a : ℕ) × (a < b) × NZ (area_of l a b c)))) (some_bent l)
   unfolding some_bent
-  bent_decided = reflects-any (λ c. (b : ℕ) × (b < c) × ((a : ℕ) × (a < b) × NZ (area_of l a b c))) (bent_before l) (count_of l) (λ c h. bent_before c)
+  bent_decided = reflects-any (λ c. (b : ℕ) × (b < c) × ((a : ℕ) × (a < b) × NZ (area_of l a b c))) (bent_before l) (count_of l) (λ c h. bent-before c)
 
   pub line_decided : Reflects (OneLine l) (not (some_bent l))
   unfolding area_of

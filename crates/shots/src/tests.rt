@@ -52,7 +52,7 @@ pub fn same(shots: &[i32], i: usize, j: usize) -> bool
 }
 
 // Whether shots i and j are equal.
-fn same_at_lem(shots: &[i32], j: usize, i: usize) -> bool
+fn same_at(shots: &[i32], j: usize, i: usize) -> bool
     requires { (j < count_of shots.now) × (i < count_of shots.now) }
     ensures { result ≡ same_at shots.now j i }
 {
@@ -69,7 +69,7 @@ fn same_before(shots: &[i32], j: usize) -> bool
 {
     let mut i = 0;
     while i < j {
-        if same_at_lem(shots, j, i) {
+        if same_at(shots, j, i) {
             return true;
         }
         i += 1;

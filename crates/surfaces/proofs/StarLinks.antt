@@ -176,9 +176,9 @@ module _ (n x : ℕ) (s w : List ℕ) (v : Over n x s w) where
         (reflects_iff (λ h r m o. h r (reflects_true (star_cone k r) (m, o)), λ h r m. let p = reflects_yes (star_cone k r) m in h r p.0 p.1)
         (inside_at word_count (cone_of n k (star_of n y x)) w (cone_words n (star_of n y x) (star_words n y x) k))))
 
-    linked_at : (r : ℕ) → Reflects ((k : ℕ) × (k < n) × (Link k × On (triple_at n r) k)) (member (linked_of n x (star_of n y x) w) r)
+    linked-at : (r : ℕ) → Reflects ((k : ℕ) × (k < n) × (Link k × On (triple_at n r) k)) (member (linked_of n x (star_of n y x) w) r)
     unfolding linked_of
-    linked_at r =
+    linked-at r =
         subst (Reflects ((k : ℕ) × (k < n) × (Link k × On (triple_at n r) k)))
         (sym (sift_all word_count (λ q. any n (linking q)) (λ q h. let p = any_some (linking q) n h in
         omega (arith, room n v.few, on_ranked n q p.0 (and_parts (linked_at n x (star_of n y x) w p.0) (is_on p.0 (triple_at n q)) p.2).1)) r))
@@ -266,7 +266,7 @@ module _ (n x : ℕ) (s w : List ℕ) (v : Over n x s w) where
         closed : Inside ⊎ ((r : ℕ) → (member (star_of n y x) r ≡ true) × (member w r ≡ true) → member (linked_of n x (star_of n y x) w) r ≡ true) → Closed
         closed (inl h) i o c k d j p = let z = joined_at n s v.within j (S.inside j p) v.least v.most c k in (z.0, z.1, h z.0 (star_in j p c k z.0 z.1))
         closed (inr h) i o c k d j p =
-            let g = reflects_yes (linked_at d.0) (h d.0 (star_in i o c k d.0 d.1, d.2)) in
+            let g = reflects_yes (linked-at d.0) (h d.0 (star_in i o c k d.0 d.1, d.2)) in
             link_all c k g.0 (in_rest i o c k d.0 d.1 g.0 g.2.0.0 g.2.1) g.2.0 j p
 
         reached : Some → Closed → Inside ⊎ ((r : ℕ) → (member (star_of n y x) r ≡ true) × (member w r ≡ true) → member (linked_of n x (star_of n y x) w) r ≡ true)
@@ -277,7 +277,7 @@ module _ (n x : ℕ) (s w : List ℕ) (v : Over n x s w) where
             at f r p =
                 let z = star_out r p.0 in
                 let q = f z.0 z.1 z.2.0 z.2.1 (r, z.2.2, p.1) in
-                reflects_true (linked_at r) (q.0, (on_low z.2.0 0 n q.0 z.2.1.within q.1).1, (q.2, rest_in z.0 z.1 z.2.0 z.2.1 r z.2.2 q.0 q.1))
+                reflects_true (linked-at r) (q.0, (on_low z.2.0 0 n q.0 z.2.1.within q.1).1, (q.2, rest_in z.0 z.1 z.2.0 z.2.1 r z.2.2 q.0 q.1))
 
   -- ---- one side exchanged for the other
 
@@ -323,7 +323,7 @@ module _ (n x : ℕ) (s w : List ℕ) (v : Over n x s w) where
                 joining q (z.0, z.1, reflects_yes (inside_at word_count (star_of n y x) w (star_words n y x)) e z.0 (star_in S some-link.0 some-link.1 q.2.0 q.2.1 z.0 z.1))
         go false e =
             both-member word_count (star_of n y' x) (linked_of n x (star_of n y x) w) (star_words n y' x) r
-            ∙ reflects_agree (reflects_iff (into, λ q. (star_joining q, linked q)) (reflects-and (reflects_test (member (star_of n y' x) r)) (linked_at S r))) (joins_at S b r)
+            ∙ reflects_agree (reflects_iff (into, λ q. (star_joining q, linked q)) (reflects-and (reflects_test (member (star_of n y' x) r)) (linked-at S r))) (joins_at S b r)
           where
             into : (member (star_of n y' x) r ≡ true) × ((k : ℕ) × (k < n) × (Link S k × On (triple_at n r) k)) → Joining S b r
             into p =

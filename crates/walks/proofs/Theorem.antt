@@ -44,7 +44,7 @@ use Rattle.walks.specs.Calls.{ground_of, read_walk, walk_as, start_landing, star
 use Rattle.walks.specs.Lines.{walk_lines}
 use Rattle.walks.specs.Surfaces.{PublishedFlip, Reachable}
 use Rattle.walks.specs.Reached.{BareFlip, BareReach}
-use Rattle.walks.specs.Demand.{Later, at_once, by-step, by-run, moved, StepsMade, StepDone, NoStepRefused, HoldsAll, Demand-3}
+use Rattle.walks.specs.Demand.{Later, at_once, by_step, by-run, moved, StepsMade, StepDone, NoStepRefused, HoldsAll, Demand-3}
 use Rattle.walks.specs.declared.Walk.{Walk}
 use Rattle.walks.specs.declared.Started.TheVariants as B
 use Rattle.walks.proofs.StepsLaws.{flip_keeps}
@@ -186,7 +186,7 @@ module _ (l : List ℤ) (w₀ : List ℕ) (v₀ : Words word_count w₀) where
           let e = the_end t r b in
           let d = done_there t r b none e in
           (e.count, (last_of e).table, walk_as (last_of e).walk, made_to t r b e, d, ends_from_start (ground_of l) t₀ r₀ w₀ begun e d, held_there t r b e d);
-      ends-later = λ none. let e = the_end u v h in let d = done_there u v h none e in (e.count, (last_of e).table, walk_as (last_of e).walk, made_to u v h e, d, e.ends_at d, held_there u v h e d);
+      ends_later = λ none. let e = the_end u v h in let d = done_there u v h none e in (e.count, (last_of e).table, walk_as (last_of e).walk, made_to u v h e, d, e.ends_at d, held_there u v h e d);
       stops = let e = the_end u v h in (e.count, (last_of e).table, walk_as (last_of e).walk, made_to u v h e, e.stops);
       done_at = listing.done_at;
       whole = all_held h;
@@ -194,7 +194,7 @@ module _ (l : List ℤ) (w₀ : List ℕ) (v₀ : Words word_count w₀) where
       once = listing.once;
       accepted = λ p m. (rows_kept h p m).0;
       first = listing.first;
-      one-area = λ p m. (rows_kept h p m).2;
+      one_area = λ p m. (rows_kept h p m).2;
       neighbours = λ p w a (X, x, f, v', a').
           let (i, g, _) = circuit-given l first.0 X x in
           let m = (number_signs l X i g).0 in
@@ -216,7 +216,7 @@ module _ (l : List ℤ) (w₀ : List ℕ) (v₀ : Words word_count w₀) where
 
 later_walked : {l : List ℤ} {w₀ t : List ℕ} {r : Walk} {u : List ℕ} {v : Walk} → Walked (ground_of l) w₀ t (read_walk r) → Later l t r u v → Walked (ground_of l) w₀ u (read_walk v)
 later_walked h at_once = h
-later_walked {l} {w₀} h (by-step k a u' v' e) = subst (λ (x : Landing Reply). Walked (ground_of l) w₀ x.table x.walk) (sym e) (steps _ _ (later_walked h k))
+later_walked {l} {w₀} h (by_step k a u' v' e) = subst (λ (x : Landing Reply). Walked (ground_of l) w₀ x.table x.walk) (sym e) (steps _ _ (later_walked h k))
 later_walked {l} {w₀} h (by-run k b a u' v' e) = subst (λ (x : Landing Reply). Walked (ground_of l) w₀ x.table x.walk) (sym e) (runs _ _ b (later_walked h k))
 later_walked h (moved k u' room same) = moves _ u' _ (later_walked h k) room same
 

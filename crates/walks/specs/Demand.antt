@@ -9,7 +9,7 @@
 --   Demand-3 l w₀ t r u v    what the demand says of a start from the surface w₀ that left t and r, and of a later u and v:
 --     patch, surface         the start was accepted of an accepted patch and an accepted surface alone
 --     ends                   if no step is refused, the walk ends after exactly rows × C steps, and then the rows are exactly the surfaces that are reached from w₀ by flips
---     ends-later             so it does from u and v on, at step rows × C
+--     ends_later             so it does from u and v on, at step rows × C
 --     stops                  in any case so many steps from u and v are made, and one more answers done or is refused
 --     done_at                a step answers done exactly at step = rows × C
 --     whole                  then the rows are exactly the surfaces that are reached from w₀ by flips
@@ -17,7 +17,7 @@
 --     once                   no two rows are the same
 --     accepted               each row is a surface: a triangulation of the patch, in the published sense
 --     first                  the first row is w₀
---     one-area               all rows have one total double area
+--     one_area               all rows have one total double area
 --     neighbours             once (p + 1) × C ≤ step, every published flip of row p is one of the rows
 --
 -- The theorem: proofs/Theorem (`demand_3`); for any flip: reach/specs/Walked. Source: demand 3; document 01, "The walk".
@@ -41,7 +41,7 @@ use Rattle.walks.specs.declared.Stepped.TheVariants as S
 
 pub data Later (l : List ℤ) (t : List ℕ) (r : Walk) : List ℕ → Walk → Type 0 where
   at_once : Later l t r t r
-  by-step : {u : List ℕ} {v : Walk} → Later l t r u v → (a : Stepped) (u' : List ℕ) (v' : Walk) → step_landing a v' u' ≡ step_call_of l u v → Later l t r u' v'
+  by_step : {u : List ℕ} {v : Walk} → Later l t r u v → (a : Stepped) (u' : List ℕ) (v' : Walk) → step_landing a v' u' ≡ step_call_of l u v → Later l t r u' v'
   by-run : {u : List ℕ} {v : Walk} → Later l t r u v → (b : ℕ) (a : Stepped) (u' : List ℕ) (v' : Walk) → step_landing a v' u' ≡ run_call_of l u v b → Later l t r u' v'
   moved : {u : List ℕ} {v : Walk} → Later l t r u v → (u' : List ℕ) → v.rows ≤ capacity_of word_count (length u') → ((p : ℕ) → p < v.rows → row_of word_count u' p ≡ row_of word_count u p) → Later l t r u' v
 
@@ -71,7 +71,7 @@ pub record Demand-3 (l : List ℤ) (w₀ t : List ℕ) (r : Walk) (u : List ℕ)
   -- "If no step is refused, the walk ends after exactly the number of surfaces found times the number of circuits. It then holds every surface reachable from the first by flips"
   -- u' and v' are later than t and r (`by-run`), so that the rest is said of them too
   pub ends : NoStepRefused l t r → (k : ℕ) × (u' : List ℕ) × (v' : Walk) × StepsMade l t r k u' v' × StepDone l u' v' × (k ≡ v'.rows * length (circuits_of l)) × HoldsAll l w₀ u' v'
-  pub ends-later : NoStepRefused l u v → (k : ℕ) × (u' : List ℕ) × (v' : Walk) × StepsMade l u v k u' v' × StepDone l u' v' × (v.step + k ≡ v'.rows * length (circuits_of l)) × HoldsAll l w₀ u' v'
+  pub ends_later : NoStepRefused l u v → (k : ℕ) × (u' : List ℕ) × (v' : Walk) × StepsMade l u v k u' v' × StepDone l u' v' × (v.step + k ≡ v'.rows * length (circuits_of l)) × HoldsAll l w₀ u' v'
   pub stops : (k : ℕ) × (u' : List ℕ) × (v' : Walk) × StepsMade l u v k u' v' × (StepDone l u' v' ⊎ StepRefused l u' v')
   pub done_at : StepDone l u v ↔ (v.step ≡ v.rows * length (circuits_of l))
   -- "every surface reachable from the first by flips", "and no other"
@@ -82,6 +82,6 @@ pub record Demand-3 (l : List ℤ) (w₀ t : List ℕ) (r : Walk) (u : List ℕ)
   pub accepted : (p : ℕ) → p < v.rows → Accepted l (row_of word_count u p)
   pub first : row_of word_count u 0 ≡ w₀
   -- "all of one total area"
-  pub one-area : (p : ℕ) → p < v.rows → area_sum_of l (row_of word_count u p) ≡ area_sum_of l w₀
+  pub one_area : (p : ℕ) → p < v.rows → area_sum_of l (row_of word_count u p) ≡ area_sum_of l w₀
   -- "Counting from 0, all neighbours of surface p are listed once (p + 1) × (number of circuits) steps are made."
   pub neighbours : (p : ℕ) (w : List ℕ) → (p + 1) * length (circuits_of l) ≤ v.step → PublishedFlip l (row_of word_count u p) w → Stands word_count u v.rows w

@@ -25,13 +25,13 @@ returns : tie.Need-returns invariant-loop decreases-loop
 returns c =
     let m = c.before in
     let q = m.before.before.before in
-    turn_broken _ _ _ _ _ (given q.before) m.before.before.loop-test.true m.shot_number.ensures q.loop.invariant.1 c.if1.true
+    turn_broken _ _ _ _ _ (given q.before) m.before.before.loop-test.true m.shot-number.ensures q.loop.invariant.1 c.if1.true
 
 loop-again : tie.Need-loop-preserved invariant-loop decreases-loop
 loop-again c =
     let m = c.before in
     let q = m.before.before.before in
-    (search rules, turn_kept _ _ _ _ _ (given q.before) m.before.before.loop-test.true m.shot_number.ensures q.loop.invariant.1 c.if1.false)
+    (search rules, turn_kept _ _ _ _ _ (given q.before) m.before.before.loop-test.true m.shot-number.ensures q.loop.invariant.1 c.if1.false)
 
 returns-2 : tie.Need-returns-2 invariant-loop decreases-loop
 returns-2 c = turns_end _ _ _ _ c.loop-test.false c.before.loop.invariant.1

@@ -10,7 +10,7 @@ use Rattle.intake.specs.Tests.{number_at, shot_number}
 use Rattle.intake.specs.declared.Shot.{Shot}
 use Rattle.intake.specs.declared.Foot.{Foot}
 use Rattle.intake.specs.declared.Scaled.{Scaled}
-use Rattle.intake.proofs.TurnLaws.{shot_number}
+use Rattle.intake.proofs.TurnLaws.{shot-number}
 use Rattle.intake.proofs.turns.shot_number.Statement.{statement}
 use Rattle.intake.proofs.turns.shot_number.Tie as tie
 
@@ -19,7 +19,7 @@ picked : (foot : Foot) (s : Shot) (t : Scaled) {e n : ℕ} {b : Bool} → t ≡ 
 picked foot s t {e} {n} z p q h =
     let a = p ∙ ap (λ (y : Scaled). number_at y.east) z in
     let c = q ∙ ap (λ (y : Scaled). number_at y.north) z in
-    ap (λ (b : Bool). cond b n e) (sym h) ∙ (λ k. cond (ltb (a k) (c k)) (c k) (a k)) ∙ sym (shot_number foot s)
+    ap (λ (b : Bool). cond b n e) (sym h) ∙ (λ k. cond (ltb (a k) (c k)) (c k) (a k)) ∙ sym (shot-number foot s)
 
 returns : tie.Need-returns
 returns c =

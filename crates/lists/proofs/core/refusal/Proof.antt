@@ -58,7 +58,7 @@ returns-3 c =
     let k = x.before in
     let e = k.before.before in
     let s = start e.before in
-    refusal_8 _ _ s.pre.0 (words s) (solid e.before e.if1.false) _ _ s.pre.3.over-plus s.pre.3.over-minus s.pre.1 (sym k.before.is-empty.ensures ∙ k.if2.false)
+    refusal_8 _ _ s.pre.0 (words s) (solid e.before e.if1.false) _ _ s.pre.3.over_plus s.pre.3.over_minus s.pre.1 (sym k.before.is-empty.ensures ∙ k.if2.false)
     (crossed x c.if3.true)
 
 returns-4 : tie.Need-returns-4
@@ -67,7 +67,7 @@ returns-4 c =
     let k = x.before.before in
     let e = k.before.before in
     let s = start e.before in
-    refusal_9 _ _ s.pre.0 (words s) (solid e.before e.if1.false) _ _ s.pre.3.over-plus s.pre.3.over-minus s.pre.1 (sym k.before.is-empty.ensures ∙ k.if2.false)
+    refusal_9 _ _ s.pre.0 (words s) (solid e.before e.if1.false) _ _ s.pre.3.over_plus s.pre.3.over_minus s.pre.1 (sym k.before.is-empty.ensures ∙ k.if2.false)
     s.pre.3.edges (crossed x.before x.if3.false) (sym c.before.«open».ensures ∙ c.if4.true)
 
 returns-5 : tie.Need-returns-5
@@ -76,7 +76,7 @@ returns-5 c =
     let k = x.before.before in
     let e = k.before.before in
     let s = start e.before in
-    refusal_0 _ _ s.pre.0 (words s) (solid e.before e.if1.false) _ _ s.pre.3.over-plus s.pre.3.over-minus s.pre.1 (sym k.before.is-empty.ensures ∙ k.if2.false)
+    refusal_0 _ _ s.pre.0 (words s) (solid e.before e.if1.false) _ _ s.pre.3.over_plus s.pre.3.over_minus s.pre.1 (sym k.before.is-empty.ensures ∙ k.if2.false)
     s.pre.3.edges (crossed x.before x.if3.false) (sym c.before.«open».ensures ∙ c.if4.false)
 
 pub refusal-spec : {M : Type 1} → statement M

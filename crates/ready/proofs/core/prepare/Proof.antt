@@ -47,21 +47,21 @@ module _ (q : tie.After-prepare) where
   numbered : q.prepare.result ≤ circuits_most
   numbered = omega (arith, q.prepare.ensures.0, circuits-most l few)
 
-  plus-room : circuits_most ≤ length plus
-  plus-room = omega (arith, q.prepare.kept.1.0, start.pre.1)
+  plus_room : circuits_most ≤ length plus
+  plus_room = omega (arith, q.prepare.kept.1.0, start.pre.1)
 
-  minus-room : circuits_most ≤ length minus
-  minus-room = omega (arith, q.prepare.kept.1.1.0, start.pre.2)
+  minus_room : circuits_most ≤ length minus
+  minus_room = omega (arith, q.prepare.kept.1.1.0, start.pre.2)
 
-  held-room : word_count * ready_rows ≤ length tests
-  held-room = omega (arith, q.prepare.kept.1.1.1.0, start.pre.3)
+  held_room : word_count * ready_rows ≤ length tests
+  held_room = omega (arith, q.prepare.kept.1.1.1.0, start.pre.3)
 
   -- a place for each circuit, and masks whose sum fits
   in-plus : q.prepare.result ≤ length plus
-  in-plus = omega (arith, numbered, plus-room)
+  in-plus = omega (arith, numbered, plus_room)
 
   in-minus : q.prepare.result ≤ length minus
-  in-minus = omega (arith, numbered, minus-room)
+  in-minus = omega (arith, numbered, minus_room)
 
   sums : (z : ℕ) → z < q.prepare.result → get_or plus z 0 + get_or minus z 0 < 2 ^ mask_bits
   sums z h = let k : z < length (circuits_of l) = omega (arith, h, q.prepare.ensures.0) in sum_low l few z k _ _ (q.prepare.ensures.1 z k)
@@ -69,7 +69,7 @@ module _ (q : tie.After-prepare) where
 stars-requires : tie.Need-stars-requires
 stars-requires c κs =
     let q = c.before.before.before.before.before.before.before.before.before in
-    (few q, omega (arith, few q), q.prepare.ensures.2.holding, in-plus q, in-minus q, in-plus q, omega (arith, numbered q, held-room q), sums q)
+    (few q, omega (arith, few q), q.prepare.ensures.2.holding, in-plus q, in-minus q, in-plus q, omega (arith, numbered q, held_room q), sums q)
 
 -- what is known once the stars of the plus sides are written
 module _ (p : tie.After-stars) where
@@ -88,7 +88,7 @@ stars-requires-2 : tie.Need-stars-requires-2
 stars-requires-2 c κs =
     let p = c.before.before.before.before.before in
     let q = done p in
-    (few q, omega (arith, few q), plus-holding p, in-plus q, in-minus q, in-minus q, omega (arith, numbered q, held-room q, p.stars.ensures.lengths), sums q)
+    (few q, omega (arith, few q), plus-holding p, in-plus q, in-minus q, in-minus q, omega (arith, numbered q, held_room q, p.stars.ensures.lengths), sums q)
 
 returns : tie.Need-returns
 returns c =
@@ -96,7 +96,7 @@ returns c =
     let p = m.before.before.before.before.before.before in
     let q = done p in
     let e = q.prepare.ensures in
-    (e.0, stars_ready (l q) (few q) (plus q) (minus q) e.1 q.prepare.result e.0 (tests q) (with-plus p) _ p.stars.ensures m.stars2.ensures (plus-room q) (minus-room q) (held-room q) e.2)
+    (e.0, stars_ready (l q) (few q) (plus q) (minus q) e.1 q.prepare.result e.0 (tests q) (with-plus p) _ p.stars.ensures m.stars2.ensures (plus_room q) (minus_room q) (held_room q) e.2)
 
 pub prepare-spec : {M : Type 1} → statement M
 prepare-spec =

@@ -64,13 +64,13 @@ mul-between : tie.Need-overflow-mul-between
 mul-between c = double c.before.before.before
 
 shared-slice-read-between : tie.Need-shared-slice-read-between
-shared-slice-read-between c = let s = c.before.before.before.before in omega (arith, placed s, s.requires.1.plus-room)
+shared-slice-read-between c = let s = c.before.before.before.before in omega (arith, placed s, s.requires.1.plus_room)
 
 mul-between-2 : tie.Need-overflow-mul-between-2
 mul-between-2 c = double c.before.before.before.before
 
 shared-slice-read-between-2 : tie.Need-shared-slice-read-between-2
-shared-slice-read-between-2 c = let s = c.before.before.before.before.before in omega (arith, placed s, s.requires.1.minus-room)
+shared-slice-read-between-2 c = let s = c.before.before.before.before.before in omega (arith, placed s, s.requires.1.minus_room)
 
 add-between : tie.Need-overflow-add-between
 add-between c = record { fits = sum c.before.before.before.before.before }
@@ -79,13 +79,13 @@ add-row-at : tie.Need-overflow-add-row-at
 add-row-at c = record { fits = omega (arith, placed c.before.before.before.before.before) }
 
 row-at-requires : tie.Need-row-at-requires
-row-at-requires c κs = let s = c.before.before.before.before.before in omega (arith, placed s, s.requires.1.held-room)
+row-at-requires c κs = let s = c.before.before.before.before.before in omega (arith, placed s, s.requires.1.held_room)
 
 add-row-at-2 : tie.Need-overflow-add-row-at-2
 add-row-at-2 c = record { fits = omega (arith, placed c.before.before.before.before.before.before) }
 
 row-at-requires-2 : tie.Need-row-at-requires-2
-row-at-requires-2 c κs = let s = c.before.before.before.before.before.before in omega (arith, placed s, s.requires.1.held-room)
+row-at-requires-2 c κs = let s = c.before.before.before.before.before.before in omega (arith, placed s, s.requires.1.held_room)
 
 -- the rows that were read are the stars of the two sides
 module _ (a : tie.After-row-at2) where
@@ -101,7 +101,7 @@ module _ (a : tie.After-row-at2) where
 between-requires : tie.Need-between-requires
 between-requires c κs =
     let s = start c in
-    (few s, omega (arith, few s, s.pre.1.held-room), s.pre.1.tests.holding, below s, (p s, plus-star c), (m s, minus-star c))
+    (few s, omega (arith, few s, s.pre.1.held_room), s.pre.1.tests.holding, below s, (p s, plus-star c), (m s, minus-star c))
 
 returns : tie.Need-returns
 returns c =

@@ -20,7 +20,7 @@ use Rattle.triples.specs.Ranks.{triple_count, rank_of}
 use Rattle.triples.specs.Sets.{words_of}
 use Rattle.triples.proofs.RankLaws.{triple_of_rank, rank_room}
 use Rattle.records.specs.Reading.{triple_in, in_form, least_at, bad_at, triple_rule, listed_in, listed_of}
-use Rattle.records.proofs.FormatLaws.{in_form}
+use Rattle.records.proofs.FormatLaws.{in-form}
 use Rattle.records.proofs.listed.list_in.Statement.{statement}
 use Rattle.records.proofs.listed.list_in.Tie as tie
 
@@ -59,7 +59,7 @@ module _ (n : ℕ) (b : List ℕ) (j : ℕ) {x y z : ℕ} (e : (x ≡ get_or b (
 -- what the form says
 module _ (n x y z : ℕ) (h : in_form n x y z ≡ true) where
   formed : Within 0 (x ∷ y ∷ z ∷ []) n
-  formed = reflects_yes (in_form n x y z) h
+  formed = reflects_yes (in-form n x y z) h
 
   ranked : rank_of n (x ∷ y ∷ z ∷ []) < triple_count n
   ranked = (triple_of_rank n (x ∷ y ∷ z ∷ []) formed refl).0
@@ -76,11 +76,11 @@ returns : tie.Need-returns invariant-loop decreases-loop
 returns c =
     let p = c.before.before in
     let a = p.before.before.before.before.before.args in
-    refused p (formless a.n a.b.now p.before.before.loop.j p.triple.ensures (sym c.before.in_form.ensures ∙ not-true c.before.in_form.result c.if1.true))
+    refused p (formless a.n a.b.now p.before.before.loop.j p.triple.ensures (sym c.before.in-form.ensures ∙ not-true c.before.in-form.result c.if1.true))
 
 -- the triple is in form
 right : (e : tie.Else1 invariant-loop decreases-loop) → let p = e.before.before in let t = p.triple.result in in_form p.before.before.before.before.before.args.n t.i t.j t.k ≡ true
-right e = sym e.before.in_form.ensures ∙ not-false e.before.in_form.result e.if1.false
+right e = sym e.before.in-form.ensures ∙ not-false e.before.in-form.result e.if1.false
 
 rank-requires : tie.Need-rank-requires invariant-loop decreases-loop
 rank-requires c κs =

@@ -20,10 +20,10 @@ loop-holds c = (search rules, any_none _)
 
 returns : tie.Need-returns invariant-loop decreases-loop
 unfolding bent_before
-returns c = found _ _ _ c.before.before.loop-test.true c.before.bent_of.ensures c.if1.true
+returns c = found _ _ _ c.before.before.loop-test.true c.before.bent-of.ensures c.if1.true
 
 loop-again : tie.Need-loop-preserved invariant-loop decreases-loop
-loop-again c = (search rules, go_on_lem _ _ c.before.before.before.loop.invariant.1 c.before.bent_of.ensures c.if1.false)
+loop-again c = (search rules, go_on_lem _ _ c.before.before.before.loop.invariant.1 c.before.bent-of.ensures c.if1.false)
 
 returns-2 : tie.Need-returns-2 invariant-loop decreases-loop
 unfolding bent_before

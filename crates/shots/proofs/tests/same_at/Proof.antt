@@ -3,8 +3,8 @@ use mathlib.Core.Path.{sym, ◌∙◌}
 use borrow.Author.Rules.{rules}
 use Rattle.shots.specs.Coordinates.{x_of, y_of}
 use Rattle.shots.specs.Tests.{same_at}
-use Rattle.shots.proofs.tests.same_at_lem.Statement.{statement}
-use Rattle.shots.proofs.tests.same_at_lem.Tie as tie
+use Rattle.shots.proofs.tests.same_at.Statement.{statement}
+use Rattle.shots.proofs.tests.same_at.Tie as tie
 
 returns : tie.Need-returns
 unfolding same_at x_of y_of

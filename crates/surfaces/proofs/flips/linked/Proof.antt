@@ -52,9 +52,9 @@ loop-again c =
     let k = l.loop.k in (
       search rules,
       ⊎_elim
-          (λ w. turn_in s.args.n s.args.x (words_of s.args.star) (words_of s.args.list) k (words_of w.1.result) o.linked_at.ensures w.0.taken l.loop.invariant.1
+          (λ w. turn_in s.args.n s.args.x (words_of s.args.star) (words_of s.args.list) k (words_of w.1.result) o.linked-at.ensures w.0.taken l.loop.invariant.1
           (w.1.ensures ∙ s.requires.2 k o.before.loop-test.true) (ap words_of w.3 ∙ w.2.ensures))
-          (λ w. turn-out s.args.n s.args.x (words_of s.args.star) (words_of s.args.list) k o.linked_at.ensures w.0.left (ap words_of w.1 ∙ l.loop.invariant.1))
+          (λ w. turn-out s.args.n s.args.x (words_of s.args.star) (words_of s.args.list) k o.linked-at.ensures w.0.left (ap words_of w.1 ∙ l.loop.invariant.1))
           c.if1.branch,
     )
 

@@ -122,7 +122,7 @@ refusal-requires c κs =
     let d = ahead_of r in
     let a = here d in
     let g = going a in
-    let h = g.ready.held-room in
+    let h = g.ready.held_room in
     let p = (start a).pre.0 in (
       (patch_few _ g.patch).1,
       g.circuits,

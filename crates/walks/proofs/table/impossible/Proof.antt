@@ -27,15 +27,15 @@ mul-result c =
     record { fits = omega (arith, few a.walk.rows a.capacity a.count c.if2.false p.0 p.1) }
 
 -- what is left to ask where the rows are some and not too many
-by-step : (m : ℕ) (w : WalkRecord) (c : ℕ) → (w.rows ≡ 0 → ⊥) → w.rows ≤ m → ltb (w.rows * c) w.step ≡ impossible m w c
-by-step m w c h k = go (ltb (w.rows * c) w.step) refl
+by_step : (m : ℕ) (w : WalkRecord) (c : ℕ) → (w.rows ≡ 0 → ⊥) → w.rows ≤ m → ltb (w.rows * c) w.step ≡ impossible m w c
+by_step m w c h k = go (ltb (w.rows * c) w.step) refl
   where
     go : (b : Bool) → ltb (w.rows * c) w.step ≡ b → b ≡ impossible m w c
     go true e = sym (impossible_above m w c (ltb-true _ _ e))
     go false e = sym (possible_holds m w c (omega arith) k (ltb-false _ _ e))
 
 returns-3 : tie.Need-returns-3
-returns-3 c = let e = c.before in by-step _ _ _ e.before.if1.false e.if2.false
+returns-3 c = let e = c.before in by_step _ _ _ e.before.if1.false e.if2.false
 
 pub impossible-spec : {M : Type 1} → statement M
 impossible-spec = tie.close (tie.spec returns returns-2 mul-result returns-3)
