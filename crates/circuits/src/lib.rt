@@ -4,26 +4,28 @@
 //   circuit    the two sides of circuit z, a bit for each shot    1-4, 12
 //
 // Every call takes every input; specs/Calls.antt says what it answers, specs/Lines.antt when it refuses.
+#![tactic(auto)]
+
 ghost use Rattle.core.specs.Prelude.{◌≡◌};
 ghost use Rattle.shots.specs.Calls.{read_counted};
 ghost use Rattle.circuits.specs.Calls.{read_split, count_call_of, circuit_call_of};
 
 use shots::Counted;
 
-pub mod core;
+pub mod kernel;
 mod masks;
 
 // A patch has at most this many circuits: the sets of three and of four of its shots.
 pub const CIRCUITS_MOST: usize = 330;
 
 // The sides of a circuit, shot i at bit i. The plus side holds the smallest shot.
-#[derive(Drop)]
+#[derive(Clone, Copy)]
 pub struct Sides {
     pub plus: u16,
     pub minus: u16,
 }
 
-#[derive(Drop)]
+#[derive(Clone, Copy)]
 pub enum Split {
     Circuit(Sides),
     Refused(u8),
@@ -38,7 +40,7 @@ pub fn count(shots: &[i32]) -> Counted
     }
     let mut plus = [0u16; CIRCUITS_MOST];
     let mut minus = [0u16; CIRCUITS_MOST];
-    Counted::Count(core::all(shots, &mut plus, &mut minus))
+    Counted::Count(kernel::all(shots, &mut plus, &mut minus))
 }
 
 pub fn circuit(shots: &[i32], z: usize) -> Split
@@ -50,7 +52,7 @@ pub fn circuit(shots: &[i32], z: usize) -> Split
     }
     let mut plus = [0u16; CIRCUITS_MOST];
     let mut minus = [0u16; CIRCUITS_MOST];
-    let count = core::all(shots, &mut plus, &mut minus);
+    let count = kernel::all(shots, &mut plus, &mut minus);
     if count <= z {
         return Split::Refused(12);
     }

@@ -6,6 +6,8 @@
 // The edition says which foot is meant: 1 the US survey foot, 2 the international foot; metres do not depend on it.
 // Every call takes every input; specs/Calls.antt says what it answers, specs/Scaling.antt which operations are made, specs/Nearest.antt which whole number is taken,
 // specs/Lines.antt when a call refuses.
+#![tactic(auto)]
+
 ghost use Rattle.std.specs.Prelude.{◌≡◌, false, pos, take, replicate};
 ghost use Rattle.algebra.specs.Answer.{refuses, refusal};
 ghost use Rattle.shots.specs.Sizes.{coordinates_most};
@@ -21,21 +23,21 @@ mod scaling;
 mod turns;
 
 // A shot, its east and its north.
-#[derive(Drop)]
+#[derive(Clone, Copy)]
 pub enum Shot {
     Metres(f64, f64),
     Feet(f64, f64),
 }
 
 // What feet are multiplied by to make millimetres, and then divided by.
-#[derive(Drop)]
+#[derive(Clone, Copy)]
 pub struct Foot {
     pub times: f64,
     pub over: f64,
 }
 
 // A shot's east and north after the factors, before they are rounded to whole millimetres.
-#[derive(Drop)]
+#[derive(Clone, Copy)]
 pub struct Scaled {
     pub east: f64,
     pub north: f64,

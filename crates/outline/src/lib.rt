@@ -5,6 +5,8 @@
 //   part      the filled part of one of the two buffers, without a copy
 //
 // Every call takes every input; specs/Calls.antt says what it answers and leaves, specs/Lines.antt when it refuses.
+#![tactic(auto)]
+
 ghost use Rattle.std.specs.Prelude.{◌≡◌};
 ghost use Rattle.outline.specs.Calls.{outlined_in, chains_of, part_of};
 
@@ -12,20 +14,20 @@ mod buffers;
 mod wrapping;
 
 // How many shots each chain has.
-#[derive(Drop)]
+#[derive(Clone, Copy)]
 pub struct Lengths {
     pub south: usize,
     pub north: usize,
 }
 
-#[derive(Drop)]
+#[derive(Clone, Copy)]
 pub enum Outlined {
     Chains(Lengths),
     Refused(u8),
 }
 
 // Which of the two chains is asked for.
-#[derive(Drop)]
+#[derive(Clone, Copy)]
 pub enum Facing {
     South,
     North,

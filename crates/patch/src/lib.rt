@@ -22,6 +22,8 @@
 //   patch_write_surface    the record of a list                              1-4, 7 10 8 9, 11
 //
 // Every call takes every input. Its contract is an equation with the definition of the room's call; specs/Returns.antt says how an answer becomes a number and what is left.
+#![tactic(auto)]
+
 ghost use Rattle.std.specs.Prelude.{◌≡◌};
 ghost use Rattle.shots.specs.Calls.{accept_of, orientation_of, double_area_of, cocircuit_of, border_call_of};
 ghost use Rattle.outline.specs.Calls.{chains_of};

@@ -7,6 +7,8 @@
 //   write_surface    the bytes written                 1-4, 7 10 8 9, 11
 //
 // Every call takes every input; specs/Calls.antt says what it answers and leaves, specs/Formats.antt what a record is, specs/Lines.antt when a call refuses.
+#![tactic(auto)]
+
 ghost use Rattle.std.specs.Prelude.{◌≡◌};
 ghost use Rattle.triples.specs.Sets.{words_of};
 ghost use Rattle.surfaces.specs.Calls.{read_surface};
@@ -24,7 +26,7 @@ mod patches;
 
 pub const VERSION: u8 = 1;
 
-#[derive(Drop)]
+#[derive(Clone, Copy)]
 pub enum Written {
     Bytes(usize),
     Refused(u8),

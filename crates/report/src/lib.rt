@@ -1,4 +1,6 @@
 // Report: the report of one patch record, line by line. It has no call of its own; `patchwalk` uses its parts, and prints the report part by part.
+#![tactic(auto)]
+
 pub mod lines;
 pub mod walked;
 
@@ -16,7 +18,7 @@ pub const PART_LINES: usize = 64;
 pub const PART_MOST: usize = PART_LINES * text::LINE_MOST;
 
 // What is known after the walk: whether surfaces are shown; else the number that is printed; where the walk ended; whether it is complete.
-#[derive(Drop)]
+#[derive(Clone, Copy)]
 pub struct Found {
     pub shown: bool,
     pub number: u8,

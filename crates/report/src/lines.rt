@@ -38,7 +38,7 @@ fn first(out: &mut [u8], at: usize, shots: &[i32], list: Triples) -> usize
 {
     let mut plus = [0u16; CIRCUITS_MOST];
     let mut minus = [0u16; CIRCUITS_MOST];
-    let count = circuits::core::all(shots, &mut plus, &mut minus);
+    let count = circuits::kernel::all(shots, &mut plus, &mut minus);
     let border = shots::pairs::side_count(shots);
     let area = surfaces::areas::sum(shots, list);
     text::lines::patch(out, at, shots.len() / 2, count, border, area)

@@ -1,4 +1,6 @@
 // runcases: reads a stream of cases on standard input and prints for each what the call answered and what it left in all that it was lent. docs/CASES.md has the form of both.
+#![tactic(auto)]
+
 ghost use Rattle.io.specs.Counts.{IsPrefixLen};
 
 use libc::STDIN_FILENO;

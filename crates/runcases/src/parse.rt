@@ -8,14 +8,14 @@ pub const NUMBERS_MOST: usize = 8;
 const RUNS_MOST: usize = 3;
 
 // Where in a line a byte stands: behind how many opening brackets, and whether inside.
-#[derive(Drop)]
+#[derive(Clone, Copy)]
 struct Place {
     runs: usize,
     inside: bool,
 }
 
 // A number that is being read: its digits so far and its sign; where a `*` has come, what stood before it.
-#[derive(Drop)]
+#[derive(Clone, Copy)]
 struct Scan {
     value: u64,
     negative: bool,

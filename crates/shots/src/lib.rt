@@ -7,6 +7,8 @@
 //   border         the number of sides                                     1-4
 //
 // Every call takes every input; specs/Calls.antt says what it answers, specs/Lines.antt when it refuses.
+#![tactic(auto)]
+
 ghost use Rattle.std.specs.Prelude.{◌≡◌};
 ghost use Rattle.shots.specs.Calls.{read_accepted, read_oriented, read_measured, read_signs, read_counted, accept_of, orientation_of, double_area_of, cocircuit_of, border_call_of};
 
@@ -27,26 +29,26 @@ pub const LOWEST: i32 = -1000000;
 
 pub const HIGHEST: i32 = 1000000;
 
-#[derive(Drop)]
+#[derive(Clone, Copy)]
 pub enum Accepted {
     Accepted,
     Refused(u8),
 }
 
 // Positive where the turn is counterclockwise.
-#[derive(Drop)]
+#[derive(Clone, Copy)]
 pub enum Oriented {
     Area(i64),
     Refused(u8),
 }
 
-#[derive(Drop)]
+#[derive(Clone, Copy)]
 pub enum Measured {
     Area(u64),
     Refused(u8),
 }
 
-#[derive(Drop)]
+#[derive(Clone, Copy)]
 pub enum Counted {
     Count(usize),
     Refused(u8),
@@ -60,7 +62,7 @@ pub struct Signs {
 }
 
 // How many shots a call hands out.
-#[derive(Drop)]
+#[derive(Clone, Copy)]
 pub enum Patched {
     Shots(usize),
     Refused(u8),

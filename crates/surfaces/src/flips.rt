@@ -9,7 +9,7 @@ ghost use Rattle.surfaces.specs.Stars.{star_of, IsStar, linked_of, linked_at, su
 use triples::Triples;
 
 // A list that was flipped, or as it was where there is no flip.
-#[derive(Drop)]
+#[derive(Clone, Copy)]
 pub struct Turned {
     pub found: bool,
     pub list: Triples,

@@ -4,12 +4,14 @@
 //   flip       a list                  1-4, 7 10 8 9, 12 13
 //
 // Every call takes every input; specs/Calls.antt says what it answers, specs/Lines.antt when it refuses.
+#![tactic(auto)]
+
 ghost use Rattle.core.specs.Prelude.{◌≡◌};
 ghost use Rattle.triples.specs.Sets.{words_of};
 ghost use Rattle.surfaces.specs.Calls.{read_surface, placing_of, flip_of};
 
 use circuits::CIRCUITS_MOST;
-use lists::{HELD_WORDS, core};
+use lists::{HELD_WORDS, kernel};
 use shots::SHOTS_MOST;
 use triples::{Triples, WORDS};
 
@@ -20,7 +22,7 @@ pub mod placed;
 // The words of a table that has a row for each shot.
 const HOLDING_WORDS: usize = WORDS * SHOTS_MOST;
 
-#[derive(Drop)]
+#[derive(Clone, Copy)]
 pub enum Surface {
     List(Triples),
     Refused(u8),
@@ -48,8 +50,8 @@ pub fn flip(shots: &[i32], list: Triples, z: usize) -> Surface
     let mut plus = [0u16; CIRCUITS_MOST];
     let mut minus = [0u16; CIRCUITS_MOST];
     let mut held = [0u64; HELD_WORDS];
-    let count = core::prepare(shots, &mut plus, &mut minus, &mut held);
-    let number = core::refusal(shots, &held, count, list);
+    let count = kernel::prepare(shots, &mut plus, &mut minus, &mut held);
+    let number = kernel::refusal(shots, &held, count, list);
     if number != 0 {
         return Surface::Refused(number);
     }

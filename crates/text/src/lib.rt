@@ -1,5 +1,7 @@
 // Text: the lines that `patchwalk` prints, each put into a lent buffer. It has no call of its own; the rooms above use its parts.
 // Each part puts its text at a place of the buffer and answers the place behind it; specs/Lines.antt says what the text is.
+#![tactic(auto)]
+
 pub mod counts;
 pub mod lines;
 pub mod put;

@@ -4,7 +4,7 @@ ghost use Rattle.algebra.specs.Places.{choose, set_by, next_of};
 ghost use Rattle.shots.specs.Sizes.{shots_most};
 ghost use Rattle.triples.specs.Ranks.{triple_count, triple_at, rank_of};
 
-#[derive(Drop)]
+#[derive(Clone, Copy)]
 pub struct Triple {
     pub i: usize,
     pub j: usize,
@@ -37,7 +37,7 @@ pub fn count(n: usize) -> usize
 }
 
 // The first number of a list of numbers, and the place of the others among the lists that begin with it.
-#[derive(Drop)]
+#[derive(Clone, Copy)]
 struct Leading {
     number: usize,
     rest: usize,

@@ -6,6 +6,8 @@
 //
 // Each has a twin, start_at, step_at, run_at, that takes the record by value and hands it back. Every call takes every input; specs/Calls.antt says what it answers and leaves,
 // specs/Lines.antt when it refuses, specs/Demand.antt what a walk lists.
+#![tactic(auto)]
+
 ghost use Rattle.core.specs.Prelude.{◌≡◌};
 ghost use Rattle.walks.specs.Calls.{start_landing, step_landing, after_start, after_step, start_call_of, step_call_of, run_call_of};
 
@@ -20,32 +22,32 @@ pub use table::ROWS_MOST;
 
 // The walk record: how many rows of the table are in use, and the number of the next step.
 #[repr(C)]
-#[derive(Drop)]
+#[derive(Clone, Copy)]
 pub struct Walk {
     pub rows: usize,
     pub step: usize,
 }
 
-#[derive(Drop)]
+#[derive(Clone, Copy)]
 pub enum Started {
     Started,
     Refused(u8),
 }
 
-#[derive(Drop)]
+#[derive(Clone, Copy)]
 pub enum Stepped {
     Made,
     Done,
     Refused(u8),
 }
 
-#[derive(Drop)]
+#[derive(Clone, Copy)]
 pub struct AfterStart {
     pub answer: Started,
     pub walk: Walk,
 }
 
-#[derive(Drop)]
+#[derive(Clone, Copy)]
 pub struct AfterStep {
     pub answer: Stepped,
     pub walk: Walk,
@@ -88,8 +90,8 @@ pub fn run_at(shots: &[i32], table: &mut [u64], walk: Walk, b: usize) -> AfterSt
     }
     let mut plus = [0u16; CIRCUITS_MOST];
     let mut minus = [0u16; CIRCUITS_MOST];
-    let mut held = [0u64; ready::core::READY_WORDS];
-    let count = ready::core::prepare(shots, &mut plus, &mut minus, &mut held);
+    let mut held = [0u64; ready::kernel::READY_WORDS];
+    let count = ready::kernel::prepare(shots, &mut plus, &mut minus, &mut held);
     if table::impossible(table::capacity(table.len()), walk, count) {
         return AfterStep {
             answer: Stepped::Refused(15),

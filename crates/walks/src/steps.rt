@@ -16,7 +16,7 @@ ghost use Rattle.walks.specs.Going.{Going};
 ghost use Rattle.walks.specs.Index.{Indexed};
 
 use super::{AfterStep, Stepped, Walk, table};
-use lists::core;
+use lists::kernel;
 use triples::{Triples, rows};
 
 // Whether a step was made.
@@ -60,7 +60,7 @@ fn one(
     requires { Going shots.now plus.now minus.now held.now count table.old (read_walk walk) × (walk.step < walk.rows * count) × (words_of row ≡ row_of word_count table.old (walk.step / count)) × (list_refusal_of shots.now (words_of row) ≡ 0) × (z ≡ walk.step % count) × Indexed table.old walk.rows index.old }
     ensures { (after_step table.new result ≡ step_of (ground_of shots.now) table.old (read_walk walk)) × Indexed table.new result.walk.rows index.new }
 {
-    let turned = ready::core::turn(shots, plus, minus, held, count, row, z);
+    let turned = ready::kernel::turn(shots, plus, minus, held, count, row, z);
     if !turned.found {
         return passed(walk);
     }
@@ -128,7 +128,7 @@ fn refusal(shots: &[i32], held: &[u64], count: usize, written: bool, row: Triple
     if written {
         return 0;
     }
-    core::refusal(shots, held, count, row)
+    kernel::refusal(shots, held, count, row)
 }
 
 // The next b steps, row by row.
