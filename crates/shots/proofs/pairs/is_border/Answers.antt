@@ -1,0 +1,16 @@
+-- `shots::pairs::is_border` meets its contract: what is right of a pair is left of the pair turned.
+use mathlib.Core.Path.{sym, ◌∙◌, ap}
+use mathlib.Core.Bool.{not}
+use Rattle.shots.specs.Patch.{border_of}
+use Rattle.shots.proofs.Orientations.{right_is_left}
+use Rattle.shots.proofs.pairs.is_border.Goals as goal
+
+pub returns-then-some_left : goal.returns-then-some_left
+unfolding border_of
+returns-then-some_left c =
+    let a = c.args in
+    simp (sym c.some_left.ensures ∙ c.if-some_left.true) (ap not (c.some_left-then-some_left.ensures ∙ sym (right_is_left a.shots.now a.i a.j)))
+
+pub returns : goal.returns
+unfolding border_of
+returns c = simp (sym c.some_left.ensures ∙ c.if-some_left.false)
