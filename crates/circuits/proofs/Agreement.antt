@@ -5,7 +5,7 @@
 --   numbered_once        and one number only
 --
 -- The published side is matroid's `Circuit`, which knows no determinant. Source 001, section 2; document 01, "Circuits".
-use Rattle.core.specs.Prelude.{◌≡◌, ℕ, ◌<◌, false, not, ◌⊎◌, List, [], ◌∷◌, length, ℤ, pos}
+use Rattle.std.specs.Prelude.{◌≡◌, ℕ, ◌<◌, false, not, ◌⊎◌, List, [], ◌∷◌, length, ℤ, pos}
 use mathlib.Core.Path.{refl, sym, ◌∙◌, ap, subst}
 use mathlib.Core.Logic.{inl, inr, ⊎_elim}
 use native.Mathlib.Omega.{arith}

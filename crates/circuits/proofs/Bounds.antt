@@ -4,7 +4,7 @@
 --   candidates_most        at most 330 of those for a patch of ten shots or fewer
 --   circuits-most          so at most 330 circuits
 --   all_fit                arrays of 330 places have room for all
-use Rattle.core.specs.Prelude.{◌≡◌, ℕ, ◌+◌, ◌≤◌, Bool, true, false, not, List, [], ◌∷◌, length, ℤ}
+use Rattle.std.specs.Prelude.{◌≡◌, ℕ, ◌+◌, ◌≤◌, Bool, true, false, not, List, [], ◌∷◌, length, ℤ}
 use native.Mathlib.Omega.{arith}
 use native.Mathlib.Nat.{le_trans}
 use lib.ListN.{length-append}

@@ -11,7 +11,7 @@
 --   shots-in            and those of its source
 --   circuits_in_order   fewer shots first, and sets of one size in lexicographic order
 --   numbers_in_order    the same for two numbers
-use Rattle.core.specs.Prelude.{◌≡◌, ℕ, ◌^◌, ◌<◌, Bool, true, false, not, List, [], ◌∷◌, length, get_or, ℤ}
+use Rattle.std.specs.Prelude.{◌≡◌, ℕ, ◌^◌, ◌<◌, Bool, true, false, not, List, [], ◌∷◌, length, get_or, ℤ}
 use mathlib.Core.Path.{refl, sym, ◌∙◌, ap}
 use mathlib.Core.Logic.{inl, inr}
 use mathlib.Core.Bool.{true≢false, false≢true}

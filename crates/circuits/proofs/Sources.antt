@@ -9,7 +9,7 @@
 --   sources, source_numbered     every numbered circuit has a source; what has a source is numbered
 --   Made n z                     z is split from terms with signs, their shots increasing and below n; `made`: every source makes a circuit so
 --   source_at, made_at           so was circuit z
-use Rattle.core.specs.Prelude.{◌≡◌, ℕ, ◌+◌, ◌<◌, ◌≤◌, Bool, true, false, not, List, [], ◌∷◌, length, ℤ}
+use Rattle.std.specs.Prelude.{◌≡◌, ℕ, ◌+◌, ◌<◌, ◌≤◌, Bool, true, false, not, List, [], ◌∷◌, length, ℤ}
 use mathlib.Core.Path.{refl, sym, ◌∙◌, ap, subst}
 use mathlib.Core.Logic.{⊎_elim}
 use mathlib.Core.List.Memᴰ

@@ -4,7 +4,7 @@
 --   three_sides, four_sides            its masks, from the tests of the code
 --   flat_test                          the code's test of four signs
 --   end-signed, none_of                an end or the middle has a sign; none of four tests holds
-use Rattle.core.specs.Prelude.{◌≡◌, ℕ, Bool, true, false, not, ◌||◌, eqb, List, [], ◌∷◌, length, ℤ, pos}
+use Rattle.std.specs.Prelude.{◌≡◌, ℕ, Bool, true, false, not, ◌||◌, eqb, List, [], ◌∷◌, length, ℤ, pos}
 use mathlib.Core.Path.{refl, sym, ◌∙◌}
 use mathlib.Core.Bool.{beq}
 use mir.Syntax.{w8}

@@ -8,7 +8,7 @@
 --   GivenFor l X z           the circuit with the signs X is given for z: what `circuit` gives for z has these signs, or all of them turned
 --
 -- That these are the published circuits: proofs/Promises (`circuit_agrees`, `circuit-given`). Source: document 01, "Circuits".
-use Rattle.core.specs.Prelude.{◌≡◌, ℕ, ◌⊎◌, List, [], ◌∷◌, ◌++◌, length, ℤ, nat_le, slice_index_or}
+use Rattle.std.specs.Prelude.{◌≡◌, ℕ, ◌⊎◌, List, [], ◌∷◌, ◌++◌, length, ℤ, nat_le, slice_index_or}
 use Rattle.algebra.specs.Answer.{Answer, gives, refuses, Rule, chain}
 use Rattle.matroid.specs.Circuits.{SignVector, Alike, against}
 use Rattle.shots.specs.Patch.{count_of}

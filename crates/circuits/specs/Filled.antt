@@ -7,7 +7,7 @@
 --   Worked l p m r    the r circuits of the patch l are worked out: place z of p and of m has the masks of the sides of circuit z
 --
 -- Laws: proofs/FilledLaws.
-use Rattle.core.specs.Prelude.{◌≡◌, ℕ, ◌+◌, ◌<◌, ◌≤◌, List, [], ◌∷◌, length, ℤ, slice_index, slice_set}
+use Rattle.std.specs.Prelude.{◌≡◌, ℕ, ◌+◌, ◌<◌, ◌≤◌, List, [], ◌∷◌, length, ℤ, slice_index, slice_set}
 use Rattle.circuits.specs.Sides.{TwoSides, masks}
 use Rattle.circuits.specs.Numbering.{circuits_of}
 use Rattle.circuits.specs.Calls.{circuit_at}

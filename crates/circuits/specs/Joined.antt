@@ -4,7 +4,7 @@
 --   joined z i s    one shot more, on the plus side where s says so
 --   sides3, sides4  three and four shots in order, those behind the first on its side or not
 --   Below z i       the shots so far are below i
-use Rattle.core.specs.Prelude.{ℕ, ◌+◌, ◌^◌, ◌<◌, Bool, cond}
+use Rattle.std.specs.Prelude.{ℕ, ◌+◌, ◌^◌, ◌<◌, Bool, cond}
 use Rattle.circuits.specs.declared.Sides.{Sides}
 
 abbrev pub begun : ℕ → Sides

@@ -2,7 +2,7 @@
 --
 --   NotCircuit l z    12: circuit number not below C
 --   circuit_lines      the table of `circuit`; that of `count` is the shots' own
-use Rattle.core.specs.Prelude.{ℕ, ◌≤◌, List, [], ◌∷◌, ◌++◌, length, ℤ}
+use Rattle.std.specs.Prelude.{ℕ, ◌≤◌, List, [], ◌∷◌, ◌++◌, length, ℤ}
 use Rattle.algebra.specs.Answer.{Line}
 use Rattle.shots.specs.Lines.{shot_lines}
 use Rattle.circuits.specs.Numbering.{circuits_of}

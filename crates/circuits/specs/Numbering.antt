@@ -11,7 +11,7 @@
 --   Before s t         fewer shots, or as many and earlier in lexicographic order
 --
 -- Agreement with the published definition: proofs/Agreement; that the numbers follow the order: proofs/Signs. Source: document 01, "Circuits".
-use Rattle.core.specs.Prelude.{◌≡◌, ℕ, ◌+◌, ◌<◌, Bool, true, false, cond, not, ◌||◌, ◌⊎◌, List, [], ◌∷◌, ◌++◌, length, ℤ}
+use Rattle.std.specs.Prelude.{◌≡◌, ℕ, ◌+◌, ◌<◌, Bool, true, false, cond, not, ◌||◌, ◌⊎◌, List, [], ◌∷◌, ◌++◌, length, ℤ}
 use Rattle.algebra.specs.Loops.{picks, over}
 use Rattle.algebra.specs.Sets.{Lex}
 use Rattle.algebra.specs.Sign.{Sign, minus, plus, opposite, is_nought}

@@ -9,7 +9,7 @@
 --   mask_signs s i   the same of two masks: plus where bit i of the plus mask is set, minus where that of the minus mask is, else nought
 --
 -- Source: document 01, "Circuits".
-use Rattle.core.specs.Prelude.{ℕ, cond, List, [], ◌∷◌}
+use Rattle.std.specs.Prelude.{ℕ, cond, List, [], ◌∷◌}
 use Rattle.algebra.specs.Sets.{is_on, mask_of, bit}
 use Rattle.algebra.specs.Sign.{Sign, minus, nought, plus, opposite, same_sign}
 use Rattle.matroid.specs.Circuits.{SignVector}

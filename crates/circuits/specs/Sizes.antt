@@ -2,7 +2,7 @@
 --
 --   candidates n    the sets of three and of four of n shots, with nothing known of the shots: as many circuits as there can be
 --   circuits_most    that number for the largest patch
-use Rattle.core.specs.Prelude.{ℕ, ◌++◌, length}
+use Rattle.std.specs.Prelude.{ℕ, ◌++◌, length}
 use Rattle.algebra.specs.Sets.{sets_of}
 
 abbrev pub circuits_most : ℕ

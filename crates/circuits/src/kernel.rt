@@ -1,5 +1,5 @@
 // All circuits of a patch, worked out once into two lent arrays: place z holds the sides of circuit z.
-ghost use Rattle.core.specs.Prelude.{◌≡◌, ◌<◌, ◌≤◌, ◌||◌, length, pos};
+ghost use Rattle.std.specs.Prelude.{◌≡◌, ◌<◌, ◌≤◌, ◌||◌, length, pos};
 ghost use Rattle.algebra.specs.Sign.{eq_z};
 ghost use Rattle.shots.specs.Sizes.{shots_most};
 ghost use Rattle.shots.specs.Patch.{count_of};

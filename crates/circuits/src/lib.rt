@@ -6,7 +6,7 @@
 // Every call takes every input; specs/Calls.antt says what it answers, specs/Lines.antt when it refuses.
 #![tactic(auto)]
 
-ghost use Rattle.core.specs.Prelude.{◌≡◌};
+ghost use Rattle.std.specs.Prelude.{◌≡◌};
 ghost use Rattle.shots.specs.Calls.{read_counted};
 ghost use Rattle.circuits.specs.Calls.{read_split, count_call_of, circuit_call_of};
 

@@ -1,5 +1,5 @@
 // The sides of a circuit, shot by shot in increasing order.
-ghost use Rattle.core.specs.Prelude.{◌≡◌, ◌^◌, ◌<◌};
+ghost use Rattle.std.specs.Prelude.{◌≡◌, ◌^◌, ◌<◌};
 ghost use Rattle.circuits.specs.Joined.{begun, joined, sides3, sides4, Below};
 ghost use Rattle.shots.specs.Sizes.{mask_bits};
 

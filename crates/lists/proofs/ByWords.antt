@@ -13,7 +13,7 @@
 --   crossed_by, open_by           the two tests as the code's loops make them, over the table of specs/Held
 --   refusal_7, refusal_10, refusal_8, refusal_9, refusal_0    the number of the list, test by test
 --   accepted_solid              an accepted list has nothing past the last rank and no flat triple
-use Rattle.core.specs.Prelude.{◌≡◌, ℕ, ◌*◌, ◌<◌, ◌≤◌, Bool, true, false, not, ◌&&◌, ◌||◌, eqb, ltb, leb, ◌⊎◌, List, length, ℤ}
+use Rattle.std.specs.Prelude.{◌≡◌, ℕ, ◌*◌, ◌<◌, ◌≤◌, Bool, true, false, not, ◌&&◌, ◌||◌, eqb, ltb, leb, ◌⊎◌, List, length, ℤ}
 use mathlib.Core.Path.{refl, sym, ◌∙◌, ap}
 use mathlib.Core.Logic.{inl, inr}
 use mathlib.Core.Bool.{true≢false, not-not}

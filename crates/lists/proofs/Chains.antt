@@ -3,7 +3,7 @@
 --   list_numbered   the rules of a list have numbers that are not 0
 --   list-refused    the list is refused, by the number that `core::refusal` gives
 --   list_passed     it is accepted, and the chain goes on behind its rules
-use Rattle.core.specs.Prelude.{◌≡◌, ℕ, List, ◌++◌, ℤ}
+use Rattle.std.specs.Prelude.{◌≡◌, ℕ, List, ◌++◌, ℤ}
 use mathlib.Core.Path.{sym, ◌∙◌, ap}
 use native.Mathlib.Omega.{arith}
 use Rattle.algebra.specs.Answer.{Rule, refuses, chain, Numbered}

@@ -3,7 +3,7 @@
 --   inner_border, inner_both    of a border pair there are none; of another pair they are the triples that hold both shots
 --   below_none, below_more      the rows of all pairs: where the loop over the larger shot begins, one turn more
 --   first_kept                  a turn leaves the rows before those of the pairs
-use Rattle.core.specs.Prelude.{◌≡◌, ℕ, ◌+◌, ◌<◌, Bool, true, false, not, ◌&&◌, List, replicate, ℤ}
+use Rattle.std.specs.Prelude.{◌≡◌, ℕ, ◌+◌, ◌<◌, Bool, true, false, not, ◌&&◌, List, replicate, ℤ}
 use mathlib.Core.Path.{refl, sym, ◌∙◌, ap}
 use mathlib.Core.Logic.{⊎_elim}
 use native.Mathlib.Omega.{arith}

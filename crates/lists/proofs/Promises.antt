@@ -8,7 +8,7 @@
 --   never_empty      a list without a triple is never accepted
 --
 -- That the lines are the published statements: specs/Lines; that the tests decide them: proofs/Agreement.
-use Rattle.core.specs.Prelude.{◌≡◌, ℕ, ◌<◌, false, eqb, ◌↔◌, List, ℤ}
+use Rattle.std.specs.Prelude.{◌≡◌, ℕ, ◌<◌, false, eqb, ◌↔◌, List, ℤ}
 use mathlib.Core.Path.{refl, sym, ◌∙◌}
 use mathlib.Core.Bool.{true≢false}
 use Rattle.algebra.specs.Answer.{Answer, gives, refuses, refusal, First, Clear, Reflects, Decides}

@@ -4,7 +4,7 @@
 --   poured_room      there is a place for every circuit
 --   poured_sided     the arrays hold the masks of the sides
 --   all_prepared     the table, once its rows are written part by part
-use Rattle.core.specs.Prelude.{◌≡◌, ℕ, ◌+◌, ◌*◌, ◌<◌, ◌≤◌, List, [], length, get_or, ℤ}
+use Rattle.std.specs.Prelude.{◌≡◌, ℕ, ◌+◌, ◌*◌, ◌<◌, ◌≤◌, List, [], length, get_or, ℤ}
 use mathlib.Core.Path.{◌∙◌, ap}
 use native.Mathlib.Omega.{arith}
 use Rattle.algebra.specs.Words.{row_of, set_row}

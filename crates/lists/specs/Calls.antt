@@ -4,7 +4,7 @@
 --   test_of l w    accepted; or 1-4, 7 10 8 9
 --
 -- Source: document 01, "What a surface is".
-use Rattle.core.specs.Prelude.{ℕ, List, ◌++◌, ℤ}
+use Rattle.std.specs.Prelude.{ℕ, List, ◌++◌, ℤ}
 use Rattle.algebra.specs.Answer.{Answer, gives, refuses, chain}
 use Rattle.shots.specs.Tests.{shot_rules}
 use Rattle.lists.specs.Tests.{list_rules}

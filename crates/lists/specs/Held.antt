@@ -11,7 +11,7 @@
 --   Sided l p m         place z of p and of m holds the masks of the sides of circuit z
 --
 -- That tests by these sets are those of document 01: proofs/ByWords.
-use Rattle.core.specs.Prelude.{◌≡◌, ℕ, ◌+◌, ◌*◌, ◌<◌, not, ◌&&◌, List, length, ℤ, slice_index}
+use Rattle.std.specs.Prelude.{◌≡◌, ℕ, ◌+◌, ◌*◌, ◌<◌, not, ◌&&◌, List, length, ℤ, slice_index}
 use Rattle.algebra.specs.Sets.{is_on}
 use Rattle.algebra.specs.Words.{sift, row_of}
 use Rattle.shots.specs.Sizes.{shots_most}

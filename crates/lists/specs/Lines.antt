@@ -11,7 +11,7 @@
 --   Accepted l w      the list is a triangulation of the patch: nothing past the last rank, and Theorem 2.1
 --
 -- The theorems: proofs/Promises, proofs/Agreement.
-use Rattle.core.specs.Prelude.{◌≡◌, ℕ, ◌*◌, ◌<◌, ◌≤◌, true, ◌⊎◌, List, [], ◌∷◌, ◌++◌, length, ℤ, ◌≢◌}
+use Rattle.std.specs.Prelude.{◌≡◌, ℕ, ◌*◌, ◌<◌, ◌≤◌, true, ◌⊎◌, List, [], ◌∷◌, ◌++◌, length, ℤ, ◌≢◌}
 use Rattle.algebra.specs.Answer.{Line}
 use Rattle.algebra.specs.Sets.{On}
 use Rattle.algebra.specs.Words.{word_bits, member}

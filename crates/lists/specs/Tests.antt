@@ -15,7 +15,7 @@
 --   list_refusal_of l w  the number that refuses the list, 0 where it is accepted
 --
 -- Source: document 01, "What a surface is", "Refusal numbers".
-use Rattle.core.specs.Prelude.{ℕ, ◌*◌, Bool, true, not, ◌&&◌, ◌||◌, List, [], ◌∷◌, length, ℤ, ◌==◌, nat_le}
+use Rattle.std.specs.Prelude.{ℕ, ◌*◌, Bool, true, not, ◌&&◌, ◌||◌, List, [], ◌∷◌, length, ℤ, ◌==◌, nat_le}
 use Rattle.algebra.specs.Answer.{Rule, refusal}
 use Rattle.algebra.specs.Loops.{any}
 use Rattle.algebra.specs.Sets.{is_on, all_on, same_list}

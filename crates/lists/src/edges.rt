@@ -1,5 +1,5 @@
 // The inner triples of each pair of shots, and the open edges of a list.
-ghost use Rattle.core.specs.Prelude.{◌≡◌, ◌*◌, ◌<◌, ◌≤◌, length};
+ghost use Rattle.std.specs.Prelude.{◌≡◌, ◌*◌, ◌<◌, ◌≤◌, length};
 ghost use Rattle.algebra.specs.Loops.{any};
 ghost use Rattle.algebra.specs.Words.{both_of, alone_of, row_of};
 ghost use Rattle.shots.specs.Sizes.{shots_most};

@@ -1,5 +1,5 @@
 // The test of a list of a patch whose shots are known to be right, over a table that is worked out once.
-ghost use Rattle.core.specs.Prelude.{◌≡◌, ◌+◌, ◌*◌, ◌≤◌, ◌&&◌, length, slice_index};
+ghost use Rattle.std.specs.Prelude.{◌≡◌, ◌+◌, ◌*◌, ◌≤◌, ◌&&◌, length, slice_index};
 ghost use Rattle.algebra.specs.Loops.{any};
 ghost use Rattle.algebra.specs.Words.{meets_of, row_of};
 ghost use Rattle.shots.specs.Sizes.{shots_most};

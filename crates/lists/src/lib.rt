@@ -5,7 +5,7 @@
 // It takes every input; specs/Calls.antt says what it answers, specs/Lines.antt when it refuses.
 #![tactic(auto)]
 
-ghost use Rattle.core.specs.Prelude.{◌≡◌};
+ghost use Rattle.std.specs.Prelude.{◌≡◌};
 ghost use Rattle.triples.specs.Sets.{words_of};
 ghost use Rattle.lists.specs.Calls.{read_tested, test_of};
 

@@ -4,7 +4,7 @@
 --   star_plus, star_minus     where p and m hold the masks of the sides, the stars of the plus side and of the minus side
 --   prepared_kept             what a test reads stays where the rows below held_rows do
 --   stars_ready               all of it, once the stars of the plus sides and then those of the minus sides are written behind what a test reads
-use Rattle.core.specs.Prelude.{◌≡◌, ℕ, ◌+◌, ◌*◌, ◌<◌, ◌≤◌, List, length, get_or, ℤ}
+use Rattle.std.specs.Prelude.{◌≡◌, ℕ, ◌+◌, ◌*◌, ◌<◌, ◌≤◌, List, length, get_or, ℤ}
 use mathlib.Core.Path.{◌∙◌}
 use native.Mathlib.Omega.{arith}
 use Rattle.shots.specs.Sizes.{shots_most}

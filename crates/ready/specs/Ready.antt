@@ -5,7 +5,7 @@
 --   shots_mask l z        the shots of circuit z as a mask
 --   Starred l t          those rows hold the stars
 --   Ready l p m t        the arrays p and m hold the masks of the circuits' sides, and the table t all that a test and a flip read
-use Rattle.core.specs.Prelude.{◌≡◌, ℕ, ◌+◌, ◌*◌, ◌<◌, ◌≤◌, List, length, ℤ}
+use Rattle.std.specs.Prelude.{◌≡◌, ℕ, ◌+◌, ◌*◌, ◌<◌, ◌≤◌, List, length, ℤ}
 use Rattle.algebra.specs.Words.{row_of}
 use Rattle.shots.specs.Patch.{count_of}
 use Rattle.circuits.specs.Sizes.{circuits_most}

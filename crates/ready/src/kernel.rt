@@ -1,5 +1,5 @@
 // What a run works out once: all that the test and the flip of a row read of a patch.
-ghost use Rattle.core.specs.Prelude.{◌≡◌, ℕ, ◌+◌, ◌*◌, ◌^◌, ◌<◌, ◌≤◌, length, slice_index};
+ghost use Rattle.std.specs.Prelude.{◌≡◌, ℕ, ◌+◌, ◌*◌, ◌^◌, ◌<◌, ◌≤◌, length, slice_index};
 ghost use Rattle.shots.specs.Sizes.{shots_most, mask_bits};
 ghost use Rattle.shots.specs.Tests.{refusal_of};
 ghost use Rattle.circuits.specs.Sizes.{circuits_most};

@@ -9,7 +9,7 @@
 --   part-refused, part_shown     lines that follow each other, where a number is printed and where surfaces are shown
 --   lines_surfaces      all lines of shown surfaces are their text
 --   lines-refused, lines_end     so for a number alone, and for each answer of a walk
-use Rattle.core.specs.Prelude.{◌≡◌, ℕ, zero, suc, ◌+◌, ◌-◌, ◌<◌, ◌≤◌, Bool, true, false, cond, eqb, List, ◌++◌, length, ℤ}
+use Rattle.std.specs.Prelude.{◌≡◌, ℕ, zero, suc, ◌+◌, ◌-◌, ◌<◌, ◌≤◌, Bool, true, false, cond, eqb, List, ◌++◌, length, ℤ}
 use mathlib.Core.Path.{refl, sym, ◌∙◌, ap, subst}
 use mathlib.Core.List.{append-nil}
 use native.Mathlib.Omega.{arith}

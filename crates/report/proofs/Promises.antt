@@ -12,7 +12,7 @@
 --   report_done         where it is done, the rows are printed, and they are exactly the surfaces that flips reach from w, each once
 --   report_full         where the table is full, the rows are printed
 --   report_begins       the report of an accepted record begins with the first line, whose four fields have what the calls give, and then the line of the placing surface
-use Rattle.core.specs.Prelude.{◌≡◌, ℕ, ◌*◌, ◌≤◌, Bool, true, false, ◌⊎◌, ◌↔◌, List, ◌++◌, length, replicate, ℤ}
+use Rattle.std.specs.Prelude.{◌≡◌, ℕ, ◌*◌, ◌≤◌, Bool, true, false, ◌⊎◌, ◌↔◌, List, ◌++◌, length, replicate, ℤ}
 use mathlib.Core.Path.{refl, sym, ◌∙◌, ap}
 use mathlib.Core.Logic.{inl, inr, ⊎_elim}
 use mathlib.Core.List.{append_assoc, append-nil}

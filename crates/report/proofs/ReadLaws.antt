@@ -4,7 +4,7 @@
 --   shots_count                   byte 3 counts them, and it is there
 --   shots-front, shots_wide       the coordinates stand at the front of the array, which has its length
 --   shots_taken                   the front has as many elements as are taken
-use Rattle.core.specs.Prelude.{◌≡◌, ℕ, ◌*◌, ◌<◌, ◌≤◌, List, length, get_or, take, replicate, pos}
+use Rattle.std.specs.Prelude.{◌≡◌, ℕ, ◌*◌, ◌<◌, ◌≤◌, List, length, get_or, take, replicate, pos}
 use mathlib.Core.Path.{sym, ◌∙◌, ap}
 use native.Mathlib.Omega.{arith}
 use native.Mathlib.Decide.{dec_lt}

@@ -8,7 +8,7 @@
 --   square_walk     the walk from it in a table of three rows: ten steps asked for, nine made, three rows, done
 --   square_lines    the five lines of document 01, from the rows and the record that this walk ends with
 --   square_report   the report of the record's bytes is those five lines
-use Rattle.core.specs.Prelude.{◌≡◌, ℕ, ◌<◌, true, false, List, [], ◌∷◌, ◌++◌, length, ℤ, pos}
+use Rattle.std.specs.Prelude.{◌≡◌, ℕ, ◌<◌, true, false, List, [], ◌∷◌, ◌++◌, length, ℤ, pos}
 use mathlib.Core.Path.{refl, sym, ◌∙◌, ap, subst}
 use native.Mathlib.Omega.{arith}
 use lib.ListN.{length-replicate}

@@ -8,7 +8,7 @@
 --   rows_fit                     its rows fit into the table
 --   walk_not_made                it is never only made: it ends done, or is refused
 --   walk_full                    and refused only where the table is full
-use Rattle.core.specs.Prelude.{◌≡◌, ℕ, ◌<◌, ◌≤◌, List, length, replicate, ℤ}
+use Rattle.std.specs.Prelude.{◌≡◌, ℕ, ◌<◌, ◌≤◌, List, length, replicate, ℤ}
 use mathlib.Core.Path.{sym, ◌∙◌, ap, subst}
 use mathlib.Core.Logic.{⊎_elim}
 use native.Mathlib.Omega.{arith}

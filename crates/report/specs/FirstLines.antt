@@ -8,7 +8,7 @@
 --     area           the field `area2` is the sum of the sizes of what the call `shots::orientation` gives, over the triples of row 0
 --
 -- Theorem: proofs/Promises (`report_begins`: so it is where the call `read_patch` gives n). Source: document 01, "The square with its centre"; document 02, E1, E5, E6.
-use Rattle.core.specs.Prelude.{◌≡◌, ℕ, ◌+◌, ◌-◌, List, ◌++◌, length}
+use Rattle.std.specs.Prelude.{◌≡◌, ℕ, ◌+◌, ◌-◌, List, ◌++◌, length}
 use Rattle.algebra.specs.Answer.{gives}
 use Rattle.shots.specs.Calls.{border_call_of}
 use Rattle.outline.specs.Wrapping.{south_of, north_of}

@@ -19,7 +19,7 @@
 --   line_count f, line_of l f i    the lines of a report, by what is known: how many, and line i; `shown_line l x d i`: where surfaces are shown
 --
 -- Theorems: proofs/Promises. Source: document 01, "The square with its centre".
-use Rattle.core.specs.Prelude.{ℕ, ◌+◌, ◌-◌, Bool, true, false, cond, List, ◌++◌, length, replicate, ℤ, ◌==◌}
+use Rattle.std.specs.Prelude.{ℕ, ◌+◌, ◌-◌, Bool, true, false, cond, List, ◌++◌, length, replicate, ℤ, ◌==◌}
 use Rattle.algebra.specs.Answer.{Answer, gives, refuses}
 use Rattle.algebra.specs.Loops.{tally, over}
 use Rattle.algebra.specs.Words.{row_of}

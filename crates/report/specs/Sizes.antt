@@ -5,7 +5,7 @@
 --   steps_most      more steps than a walk in any table can take
 --   part_lines      so many lines are printed at a time
 --   part_most       no such part is longer
-use Rattle.core.specs.Prelude.{ℕ, ◌+◌, ◌*◌}
+use Rattle.std.specs.Prelude.{ℕ, ◌+◌, ◌*◌}
 use Rattle.reach.specs.Walks.{rows_most}
 use Rattle.circuits.specs.Sizes.{circuits_most}
 use Rattle.triples.specs.Sizes.{word_count}

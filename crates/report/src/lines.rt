@@ -1,5 +1,5 @@
 // The lines of a report, by what is known after the walk.
-ghost use Rattle.core.specs.Prelude.{◌≡◌, ℕ, ◌+◌, ◌-◌, ◌*◌, ◌<◌, ◌≤◌, List, length};
+ghost use Rattle.std.specs.Prelude.{◌≡◌, ℕ, ◌+◌, ◌-◌, ◌*◌, ◌<◌, ◌≤◌, List, length};
 ghost use Rattle.io.specs.Counts.{IsPrefixLen};
 ghost use Rattle.algebra.specs.Loops.{over};
 ghost use Rattle.shots.specs.Patch.{count_of};

@@ -1,5 +1,5 @@
 // The walk over the patch that a record holds.
-ghost use Rattle.core.specs.Prelude.{◌≡◌, ℕ, List, replicate};
+ghost use Rattle.std.specs.Prelude.{◌≡◌, ℕ, List, replicate};
 ghost use Rattle.algebra.specs.Answer.{gives};
 ghost use Rattle.shots.specs.Tests.{refusal_of};
 ghost use Rattle.triples.specs.Sets.{words_of};

@@ -5,7 +5,7 @@
 --   size-volume        the double area of a triple is the size of its volume
 --   triple_called      `orientation` gives the volume of a triple of the list
 --   area_sum_says      `area_sum_of` is that sum, and no other number is
-use Rattle.core.specs.Prelude.{◌≡◌, ℕ, ◌+◌, ◌<◌, Bool, true, false, cond, ◌||◌, ◌↔◌, List, [], ◌∷◌, map, length, ℤ, nat_abs}
+use Rattle.std.specs.Prelude.{◌≡◌, ℕ, ◌+◌, ◌<◌, Bool, true, false, cond, ◌||◌, ◌↔◌, List, [], ◌∷◌, map, length, ℤ, nat_abs}
 use mathlib.Core.Path.{refl, sym, ◌∙◌, ap, subst}
 use mathlib.Core.List.Memᴰ
 use mathlib.Core.List.{Memᴰ}

@@ -12,7 +12,7 @@
 --   third_decided                       `third_in` decides that three shots are a triple of the list
 --   by_sees                             the code's test of an edge is `visible`
 --   with_edge_yes, with_edge_no         a list with the triple of a visible edge, and without
-use Rattle.core.specs.Prelude.{◌≡◌, ℕ, zero, suc, ◌*◌, ◌<◌, ◌≤◌, Bool, true, false, not, ◌&&◌, ◌||◌, eqb, ◌⊎◌, List, [], ◌∷◌, length, replicate, ℤ, pos, ◌-ℤ◌}
+use Rattle.std.specs.Prelude.{◌≡◌, ℕ, zero, suc, ◌*◌, ◌<◌, ◌≤◌, Bool, true, false, not, ◌&&◌, ◌||◌, eqb, ◌⊎◌, List, [], ◌∷◌, length, replicate, ℤ, pos, ◌-ℤ◌}
 use mathlib.Core.Path.{refl, sym, ◌∙◌, ap, subst}
 use mathlib.Core.Logic.{inl, inr, ⊎_elim}
 use mathlib.Core.Bool.{true≢false, false≢true}

@@ -3,7 +3,7 @@
 --   found_none, found_some     no flip is found; one is
 --   flip_stops, flip_unlisted, flip_unnumbered    the shots are refused, the list is; there is no such circuit
 --   flip_turned                what is found between the stars of the circuit's sides is the flip's answer
-use Rattle.core.specs.Prelude.{◌≡◌, ℕ, ◌+◌, ◌<◌, ◌≤◌, Bool, true, false, not, List, [], ◌++◌, length, ℤ}
+use Rattle.std.specs.Prelude.{◌≡◌, ℕ, ◌+◌, ◌<◌, ◌≤◌, Bool, true, false, not, List, [], ◌++◌, length, ℤ}
 use mathlib.Core.Path.{refl, sym, ◌∙◌, ap}
 use borrow.Author.Tests.{le-leb, lt-leb}
 use Rattle.algebra.specs.Answer.{gives, refuses, chain}

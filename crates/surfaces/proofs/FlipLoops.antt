@@ -3,7 +3,7 @@
 --   gathered k c f i    in k words, the numbers that pass c and, for some j below i, the test f at j
 --   gathered_none, gathered_in, gathered_out, gathered_end    where such a loop begins, a turn that adds what passes, one with nothing to add, where it ends
 --   less_covered        taking out what is in t and u is taking out t, where u has all that is in t and in the list
-use Rattle.core.specs.Prelude.{◌≡◌, ℕ, ◌+◌, ◌*◌, ◌<◌, ◌≤◌, Bool, true, false, not, ◌&&◌, ◌||◌, List, length, replicate}
+use Rattle.std.specs.Prelude.{◌≡◌, ℕ, ◌+◌, ◌*◌, ◌<◌, ◌≤◌, Bool, true, false, not, ◌&&◌, ◌||◌, List, length, replicate}
 use mathlib.Core.Path.{refl, sym, ◌∙◌, ap}
 use mathlib.Core.Bool.{or-false, and-false, and-or_distrib_left}
 use native.Mathlib.Omega.{arith}

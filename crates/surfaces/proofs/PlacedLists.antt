@@ -4,7 +4,7 @@
 --   VisibleTriple l w m t    t is the triple of m and an edge that is visible from it
 --   shot-listed              placing a shot puts in these triples, and no other
 --   placed_past              the surface has nothing past the last rank
-use Rattle.core.specs.Prelude.{◌≡◌, ℕ, zero, suc, ◌<◌, ◌≤◌, Bool, true, false, cond, ◌||◌, eqb, ◌⊎◌, ◌↔◌, List, [], ◌∷◌, replicate, ℤ}
+use Rattle.std.specs.Prelude.{◌≡◌, ℕ, zero, suc, ◌<◌, ◌≤◌, Bool, true, false, cond, ◌||◌, eqb, ◌⊎◌, ◌↔◌, List, [], ◌∷◌, replicate, ℤ}
 use mathlib.Core.Path.{refl, sym, ◌∙◌, ap, subst}
 use mathlib.Core.Logic.{inl, inr, ⊎_elim}
 use mathlib.Core.Bool.{true≢false, false≢true}

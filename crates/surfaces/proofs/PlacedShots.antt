@@ -5,7 +5,7 @@
 --   visible_decided    `visible` decides that a shot sees an edge of the outline (matroid, PlacingCrossing.Sees)
 --
 -- Main theorem: `shot-grown` (matroid, PlacingStep.Grown).
-use Rattle.core.specs.Prelude.{◌≡◌, ℕ, ◌<◌, ◌⊎◌, ◌↔◌, List, ℤ, ◌*ℤ◌}
+use Rattle.std.specs.Prelude.{◌≡◌, ℕ, ◌<◌, ◌⊎◌, ◌↔◌, List, ℤ, ◌*ℤ◌}
 use mathlib.Core.Path.{refl, sym, subst}
 use mathlib.Core.Logic.{inl, inr}
 use native.Mathlib.Omega.{arith}

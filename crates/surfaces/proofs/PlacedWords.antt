@@ -3,7 +3,7 @@
 --   fold_words                           a loop whose every turn keeps that
 --   with_edge_words, with_edges_words    the lists of the loops that place one shot
 --   so_far_words                         the list when the shots below m are placed; `placed_words`: when all are
-use Rattle.core.specs.Prelude.{ℕ, zero, suc, Bool, true, false, cond, ◌||◌, eqb, List, ℤ}
+use Rattle.std.specs.Prelude.{ℕ, zero, suc, Bool, true, false, cond, ◌||◌, eqb, List, ℤ}
 use Rattle.algebra.specs.Loops.{fold}
 use Rattle.algebra.specs.Words.{Words}
 use Rattle.algebra.proofs.WordLaws.{put_words}

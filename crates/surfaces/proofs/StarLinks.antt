@@ -4,7 +4,7 @@
 --   Over n x s w          what is known of a circuit s of three or four shots, with the mask x, and of a list w: no triple of the list holds all of s
 --   supported-by          the star of a side is supported exactly when its pieces are
 --   turned_by_lem             where they are, the list turned by the stars is the list with the pieces exchanged
-use Rattle.core.specs.Prelude.{◌≡◌, ℕ, suc, ◌-◌, ◌<◌, ◌≤◌, Bool, true, false, cond, not, ◌&&◌, ◌||◌, ◌⊎◌, List, [], ◌∷◌, map, length}
+use Rattle.std.specs.Prelude.{◌≡◌, ℕ, suc, ◌-◌, ◌<◌, ◌≤◌, Bool, true, false, cond, not, ◌&&◌, ◌||◌, ◌⊎◌, List, [], ◌∷◌, map, length}
 use mathlib.Core.Path.{refl, sym, ◌∙◌, ap, subst}
 use mathlib.Core.Logic.{inl, inr, ⊎_elim}
 use native.Mathlib.Omega.{arith}

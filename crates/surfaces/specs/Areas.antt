@@ -5,7 +5,7 @@
 --   SumOfSizes l w v   so in the words of document 02: v is the sum of the sizes of what `orientation` gives, over the triples of the list w, each once
 --
 -- src/areas.rt sums it; theorems: proofs/AreaSums (`area_sum_says`: of an accepted patch both are one), proofs/AreaKept (`flip_keeps_area`). Source: document 01, "Shots and orientation", "The square with its centre"; document 02, E6.
-use Rattle.core.specs.Prelude.{◌≡◌, ℕ, ◌<◌, cond, ◌↔◌, List, [], ◌∷◌, length, ℤ, ◌≢◌, slice_index_or, unsigned_abs}
+use Rattle.std.specs.Prelude.{◌≡◌, ℕ, ◌<◌, cond, ◌↔◌, List, [], ◌∷◌, length, ℤ, ◌≢◌, slice_index_or, unsigned_abs}
 use mathlib.Core.List.{Memᴰ}
 use Rattle.algebra.specs.Answer.{gives}
 use Rattle.algebra.specs.Loops.{tally, sum_of}

@@ -6,7 +6,7 @@
 --   no_flip l w z     13: neither side's pieces are supported; `flip_rules l w z`: 12 13
 --
 -- That every list given is a triangulation of the patch, with no test of it: proofs/Promises. Source: document 01, "The placing surface", "Flips".
-use Rattle.core.specs.Prelude.{ℕ, not, ◌||◌, List, [], ◌∷◌, ◌++◌, ℤ}
+use Rattle.std.specs.Prelude.{ℕ, not, ◌||◌, List, [], ◌∷◌, ◌++◌, ℤ}
 use Rattle.algebra.specs.Answer.{Answer, gives, refuses, Rule, chain}
 use Rattle.shots.specs.Patch.{count_of}
 use Rattle.shots.specs.Tests.{shot_rules}

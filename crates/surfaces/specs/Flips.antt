@@ -12,7 +12,7 @@
 --   flipped_of n w z       the plus pieces exchanged where they are supported, else the minus pieces
 --
 -- Agreement with the published flip: proofs/Agreement. Source: document 01, "Flips".
-use Rattle.core.specs.Prelude.{ℕ, ◌-◌, Bool, cond, not, ◌&&◌, ◌||◌, List, map, length, nat_lt}
+use Rattle.std.specs.Prelude.{ℕ, ◌-◌, Bool, cond, not, ◌&&◌, ◌||◌, List, map, length, nat_lt}
 use Rattle.algebra.specs.Loops.{any_of}
 use Rattle.algebra.specs.Sets.{same_list, union, dropped, sets_of}
 use Rattle.algebra.specs.Words.{member, sift}

@@ -4,7 +4,7 @@
 --   flip_lines l w z     the table of `flip`; that of `placing` is `shot_lines` (shots)
 --
 -- The theorems: proofs/Promises.
-use Rattle.core.specs.Prelude.{ℕ, List, [], ◌∷◌, ◌++◌, ℤ}
+use Rattle.std.specs.Prelude.{ℕ, List, [], ◌∷◌, ◌++◌, ℤ}
 use Rattle.algebra.specs.Answer.{Line}
 use Rattle.algebra.specs.Sign.{minus, plus}
 use Rattle.matroid.specs.Flips.{Supports}

@@ -14,7 +14,7 @@
 --
 -- Main theorem: proofs/PlacedAccepted (`placed-accepted`: the surface of an accepted patch is a triangulation of it).
 -- Source: document 01, "The placing surface"; source 001, section 3.3.
-use Rattle.core.specs.Prelude.{ℕ, Bool, cond, not, ◌&&◌, ◌||◌, List, [], ◌∷◌, replicate, ℤ, ◌==◌}
+use Rattle.std.specs.Prelude.{ℕ, Bool, cond, not, ◌&&◌, ◌||◌, List, [], ◌∷◌, replicate, ℤ, ◌==◌}
 use Rattle.algebra.specs.Loops.{any, first, fold}
 use Rattle.algebra.specs.Sets.{union}
 use Rattle.algebra.specs.Sign.{Sign, opposite, is_nought, same_sign}

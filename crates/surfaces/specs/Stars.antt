@@ -12,7 +12,7 @@
 --   found_answer f w       the list w that a flip found; or 13 where it found none
 --
 -- That this is the flip of specs/Flips: proofs/ByStars, proofs/CallChains.
-use Rattle.core.specs.Prelude.{◌≡◌, ℕ, Bool, cond, not, ◌&&◌, ◌||◌, List, [], ◌∷◌, nat_lt}
+use Rattle.std.specs.Prelude.{◌≡◌, ℕ, Bool, cond, not, ◌&&◌, ◌||◌, List, [], ◌∷◌, nat_lt}
 use Rattle.algebra.specs.Answer.{Answer, chain}
 use Rattle.algebra.specs.Loops.{any}
 use Rattle.algebra.specs.Sets.{is_on, bit}

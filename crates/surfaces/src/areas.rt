@@ -1,5 +1,5 @@
 // The double area of a list: that of its triples, summed.
-ghost use Rattle.core.specs.Prelude.{◌≡◌, ◌*◌, ◌<◌, ◌≤◌};
+ghost use Rattle.std.specs.Prelude.{◌≡◌, ◌*◌, ◌<◌, ◌≤◌};
 ghost use Rattle.shots.specs.Sizes.{shots_most, farthest};
 ghost use Rattle.shots.specs.Patch.{count_of};
 ghost use Rattle.shots.specs.Tests.{Near};

@@ -1,5 +1,5 @@
 // The flip of a list along a circuit, by sets of triples.
-ghost use Rattle.core.specs.Prelude.{◌≡◌, ◌*◌, ◌^◌, ◌<◌, ◌≤◌, length, if◌then◌else◌};
+ghost use Rattle.std.specs.Prelude.{◌≡◌, ◌*◌, ◌^◌, ◌<◌, ◌≤◌, length, if◌then◌else◌};
 ghost use Rattle.algebra.specs.Words.{clear_bit};
 ghost use Rattle.shots.specs.Sizes.{shots_most, mask_bits};
 ghost use Rattle.triples.specs.Sizes.{word_count};

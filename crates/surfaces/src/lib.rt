@@ -6,7 +6,7 @@
 // Every call takes every input; specs/Calls.antt says what it answers, specs/Lines.antt when it refuses.
 #![tactic(auto)]
 
-ghost use Rattle.core.specs.Prelude.{◌≡◌};
+ghost use Rattle.std.specs.Prelude.{◌≡◌};
 ghost use Rattle.triples.specs.Sets.{words_of};
 ghost use Rattle.surfaces.specs.Calls.{read_surface, placing_of, flip_of};
 

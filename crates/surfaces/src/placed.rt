@@ -1,5 +1,5 @@
 // The placing surface, shot by shot.
-ghost use Rattle.core.specs.Prelude.{◌≡◌, ◌*◌, ◌<◌, ◌≤◌, ◌&&◌, length};
+ghost use Rattle.std.specs.Prelude.{◌≡◌, ◌*◌, ◌<◌, ◌≤◌, ◌&&◌, length};
 ghost use Rattle.algebra.specs.Words.{both_of, meets_of};
 ghost use Rattle.shots.specs.Sizes.{shots_most};
 ghost use Rattle.shots.specs.Patch.{count_of, orient_of};

@@ -5,7 +5,7 @@
 --   Opened κ s x       the record behind the reference x, while its borrow is open for the share s of κ's token
 --   opens_record       the borrow is opened, and the record copied to a local
 --   closes_record      the record that came back is stored, and the borrow closed at it; the answer that came with it is returned
-use Rattle.core.specs.Prelude.{◌≡◌, ℕ, zero, T as Tr, List, [], ◌∷◌, ◌++◌, get_or}
+use Rattle.std.specs.Prelude.{◌≡◌, ℕ, zero, T as Tr, List, [], ◌∷◌, ◌++◌, get_or}
 use mathlib.Core.Path.{refl, sym, subst}
 use mathlib.Core.Option.{some}
 use seplogic.Ra.Ura.{Ura}

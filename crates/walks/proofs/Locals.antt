@@ -21,7 +21,7 @@
 --   lends_ref              a lent value is lent again: its address goes to a new local
 --
 -- The steps are those of the kit's `types.Kit` and `types.Run`. Each takes `refl` and `tt` for what the list of locals shows.
-use Rattle.core.specs.Prelude.{◌≡◌, ℕ, zero, suc, ◌+◌, ◌^◌, ◌<◌, T, ltb, List, [], ◌∷◌, map, get_or}
+use Rattle.std.specs.Prelude.{◌≡◌, ℕ, zero, suc, ◌+◌, ◌^◌, ◌<◌, T, ltb, List, [], ◌∷◌, map, get_or}
 use mathlib.Core.Path.{refl, sym, subst, ap}
 use mathlib.Core.Option.{some}
 use seplogic.Ra.Ura.{Ura}

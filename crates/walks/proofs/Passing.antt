@@ -15,7 +15,7 @@
 --   meets_contract         a function so walked meets its contract; entry-meets: so does its entry in a table
 --
 -- The locals are one entry (`Locals`).
-use Rattle.core.specs.Prelude.{◌≡◌, ℕ, zero, suc, List, [], ◌∷◌, ◌++◌, get_or}
+use Rattle.std.specs.Prelude.{◌≡◌, ℕ, zero, suc, List, [], ◌∷◌, ◌++◌, get_or}
 use mathlib.Core.Path.{refl, ap, subst}
 use seplogic.Ra.Ura.{Ura}
 use mir.Syntax.{Width, Ty, Name, Opd as Operand, Body, seq, call, place, Fn}

@@ -2,7 +2,7 @@
 --
 --   Unseen k t p n r                        none of the rows from p to n - 1 is r
 --   unseen_none, unseen_more, unseen_end    where it begins, one row more, where it ends: what is left are the rows before
-use Rattle.core.specs.Prelude.{◌≡◌, ℕ, ◌-◌, ◌<◌, ◌≤◌, Bool, false, List}
+use Rattle.std.specs.Prelude.{◌≡◌, ℕ, ◌-◌, ◌<◌, ◌≤◌, Bool, false, List}
 use mathlib.Core.Path.{sym, ◌∙◌, ap}
 use native.Mathlib.Omega.{arith}
 use native.Mathlib.Decide.{dec_lt}

@@ -11,7 +11,7 @@
 --   demand_3             the same of what the calls left: an accepted `start`, and then `step` and `run`
 --
 -- For any flip: reach/proofs/Theorem. Source: demand 3; document 01, "The walk".
-use Rattle.core.specs.Prelude.{◌≡◌, ℕ, ◌*◌, ◌/◌, ◌<◌, ◌≤◌, ◌↔◌, List, length, ℤ}
+use Rattle.std.specs.Prelude.{◌≡◌, ℕ, ◌*◌, ◌/◌, ◌<◌, ◌≤◌, ◌↔◌, List, length, ℤ}
 use mathlib.Core.Path.{refl, sym, ◌∙◌, ap, subst}
 use mathlib.Core.Logic.{inl, inr, ⊎_elim}
 use native.Mathlib.Omega.{arith}

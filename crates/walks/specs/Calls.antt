@@ -9,7 +9,7 @@
 --   impossible_of, is_made  15, and whether a step was made, as the code asks for them
 --
 -- Source: document 01, "The walk".
-use Rattle.core.specs.Prelude.{ℕ, Bool, true, false, List, length, ℤ}
+use Rattle.std.specs.Prelude.{ℕ, Bool, true, false, List, length, ℤ}
 use Rattle.algebra.specs.Answer.{Answer, gives, refuses}
 use Rattle.reach.specs.Walks.{Ground, WalkRecord, Begun, started, Reply, made, done, Landing, leaves, impossible, step_of, run_of, start_of}
 use Rattle.shots.specs.Tests.{shot_rules}

@@ -21,7 +21,7 @@
 --     neighbours             once (p + 1) × C ≤ step, every published flip of row p is one of the rows
 --
 -- The theorem: proofs/Theorem (`demand_3`); for any flip: reach/specs/Walked. Source: demand 3; document 01, "The walk".
-use Rattle.core.specs.Prelude.{◌≡◌, ℕ, ◌+◌, ◌*◌, ◌<◌, ◌≤◌, ◌⊎◌, ◌↔◌, List, length, ℤ, ◌≢◌}
+use Rattle.std.specs.Prelude.{◌≡◌, ℕ, ◌+◌, ◌*◌, ◌<◌, ◌≤◌, ◌⊎◌, ◌↔◌, List, length, ℤ, ◌≢◌}
 use Rattle.algebra.specs.Answer.{gives, refuses, Clear}
 use Rattle.algebra.specs.Words.{row_of}
 use Rattle.reach.specs.Walks.{done, capacity_of}

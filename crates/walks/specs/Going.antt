@@ -1,7 +1,7 @@
 -- What holds between the steps of a run.
 --
 --   Going l p m t c u w  the patch is accepted, all is worked out, and the record w is possible over the table u
-use Rattle.core.specs.Prelude.{◌≡◌, ℕ, false, List, length, ℤ}
+use Rattle.std.specs.Prelude.{◌≡◌, ℕ, false, List, length, ℤ}
 use Rattle.reach.specs.Walks.{WalkRecord, capacity_of, impossible}
 use Rattle.shots.specs.Tests.{refusal_of}
 use Rattle.circuits.specs.Numbering.{circuits_of}

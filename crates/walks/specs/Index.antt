@@ -9,7 +9,7 @@
 --                          of the same place
 --
 -- Laws: proofs/IndexLaws.
-use Rattle.core.specs.Prelude.{◌≡◌, ℕ, zero, suc, ◌+◌, ◌*◌, ◌%◌, ◌<◌, min, cond, List, [], ◌∷◌, length, ◌==◌, nat_lt, slice_index, slice_set}
+use Rattle.std.specs.Prelude.{◌≡◌, ℕ, zero, suc, ◌+◌, ◌*◌, ◌%◌, ◌<◌, min, cond, List, [], ◌∷◌, length, ◌==◌, nat_lt, slice_index, slice_set}
 use Rattle.algebra.specs.Words.{row_of}
 use Rattle.triples.specs.Sizes.{word_count}
 

@@ -7,7 +7,7 @@
 --   RunRefuses l t r b n  the run is: at its first tests, or at a step after k steps that were made
 --
 -- What each line says: reach/specs/Lines. The theorems: proofs/Promises. Source: document 01, "The walk", "Refusal numbers".
-use Rattle.core.specs.Prelude.{ℕ, List, ℤ}
+use Rattle.std.specs.Prelude.{ℕ, List, ℤ}
 use Rattle.algebra.specs.Answer.{Line}
 use Rattle.reach.specs.Walks.{WalkRecord}
 use Rattle.reach.specs.Lines.{Lines}

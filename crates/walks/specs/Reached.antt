@@ -4,7 +4,7 @@
 --   BareReach l w₀ w     w is reached from w₀ by such flips
 --
 -- From an accepted list these are the surfaces of demand 3: proofs/Theorem (`reach_bare`, `walk_whole`). Source: document 02, E9.
-use Rattle.core.specs.Prelude.{ℕ, List, ℤ}
+use Rattle.std.specs.Prelude.{ℕ, List, ℤ}
 use Rattle.algebra.specs.Words.{Words}
 use Rattle.matroid.specs.Circuits.{SignVector, Circuit}
 use Rattle.matroid.specs.Flips.{Flipped}

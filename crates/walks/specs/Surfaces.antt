@@ -4,7 +4,7 @@
 --   Reachable l w₀ w       w is reached from w₀ by such flips
 --
 -- Theorems: proofs/Theorem. Source: demand 3; document 01, "Flips"; source 001, section 3.4.
-use Rattle.core.specs.Prelude.{ℕ, List, ℤ}
+use Rattle.std.specs.Prelude.{ℕ, List, ℤ}
 use Rattle.algebra.specs.Words.{Words}
 use Rattle.matroid.specs.Circuits.{SignVector, Circuit}
 use Rattle.matroid.specs.Flips.{Flipped}

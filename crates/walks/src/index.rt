@@ -1,5 +1,5 @@
 // Which rows a table has: an index over the first of them, kept by a run. Rows of one place are linked, the last first; the rows behind those are looked through.
-ghost use Rattle.core.specs.Prelude.{◌≡◌, ◌+◌, ◌*◌, ◌<◌, ◌≤◌, ◌||◌, length, replicate};
+ghost use Rattle.std.specs.Prelude.{◌≡◌, ◌+◌, ◌*◌, ◌<◌, ◌≤◌, ◌||◌, length, replicate};
 ghost use Rattle.reach.specs.Walks.{seen_in};
 ghost use Rattle.triples.specs.Sizes.{word_count};
 ghost use Rattle.triples.specs.Sets.{words_of};

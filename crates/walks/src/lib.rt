@@ -8,7 +8,7 @@
 // specs/Lines.antt when it refuses, specs/Demand.antt what a walk lists.
 #![tactic(auto)]
 
-ghost use Rattle.core.specs.Prelude.{◌≡◌};
+ghost use Rattle.std.specs.Prelude.{◌≡◌};
 ghost use Rattle.walks.specs.Calls.{start_landing, step_landing, after_start, after_step, start_call_of, step_call_of, run_call_of};
 
 use circuits::CIRCUITS_MOST;

@@ -1,5 +1,5 @@
 // Steps over what a run has worked out: the shots and the record are tested before, a lent row before its first circuit.
-ghost use Rattle.core.specs.Prelude.{◌≡◌, ◌+◌, ◌-◌, ◌*◌, ◌/◌, ◌%◌, ◌<◌, ◌≤◌, true, length};
+ghost use Rattle.std.specs.Prelude.{◌≡◌, ◌+◌, ◌-◌, ◌*◌, ◌/◌, ◌%◌, ◌<◌, ◌≤◌, true, length};
 ghost use Rattle.algebra.specs.Answer.{gives};
 ghost use Rattle.algebra.specs.Words.{row_of};
 ghost use Rattle.reach.specs.Walks.{made, rows_most, counted, step_of, steps_of};

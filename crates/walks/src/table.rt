@@ -1,5 +1,5 @@
 // The table of rows and the walk record over it.
-ghost use Rattle.core.specs.Prelude.{◌≡◌, ◌*◌, ◌<◌, ◌≤◌, min, length};
+ghost use Rattle.std.specs.Prelude.{◌≡◌, ◌*◌, ◌<◌, ◌≤◌, min, length};
 ghost use Rattle.reach.specs.Walks.{rows_most, capacity_of, seen_in, store_of};
 ghost use Rattle.circuits.specs.Sizes.{circuits_most};
 ghost use Rattle.triples.specs.Sizes.{word_count};

@@ -1,5 +1,5 @@
 -- `lists::test` meets its contract: the chain stops at the run, at the list, or accepts.
-use Rattle.core.specs.Prelude.{◌≡◌, ◌≤◌, []}
+use Rattle.std.specs.Prelude.{◌≡◌, ◌≤◌, []}
 use mathlib.Core.Path.{sym, ◌∙◌}
 use native.Mathlib.Omega.{arith}
 use borrow.Author.Rules.{rules}

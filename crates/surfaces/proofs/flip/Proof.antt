@@ -1,5 +1,5 @@
 -- `surfaces::flip` meets its contract: the chain stops at the run, at the list or at the circuit's number, or at the stars of the circuit's sides, neither of which is supported, or gives the list.
-use Rattle.core.specs.Prelude.{◌≡◌, ℕ, ◌*◌, ◌<◌, ◌≤◌, List, length, ℤ}
+use Rattle.std.specs.Prelude.{◌≡◌, ℕ, ◌*◌, ◌<◌, ◌≤◌, List, length, ℤ}
 use mathlib.Core.Path.{sym, ◌∙◌}
 use native.Mathlib.Omega.{arith}
 use mir.Syntax.{w64}

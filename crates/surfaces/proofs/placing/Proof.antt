@@ -1,5 +1,5 @@
 -- `surfaces::placing` meets its contract: the chain stops at the run, or gives the list.
-use Rattle.core.specs.Prelude.{◌≡◌, List, [], ℤ}
+use Rattle.std.specs.Prelude.{◌≡◌, List, [], ℤ}
 use mathlib.Core.Path.{sym, ◌∙◌, ap}
 use native.Mathlib.Omega.{arith}
 use borrow.Author.Rules.{rules}

@@ -1,7 +1,7 @@
 -- `walks::run` meets its contract: its MIR is walked by hand, since it takes a reference to a struct.
 -- The borrow of the record is opened and the record is copied out; `run_at` is called with all else as it came; the record that it hands back is stored, and the borrow is
 -- closed at it. All that is used of `run_at` is that it meets its contract.
-use Rattle.core.specs.Prelude.{◌≡◌, [], ◌∷◌}
+use Rattle.std.specs.Prelude.{◌≡◌, [], ◌∷◌}
 use mathlib.Core.Path.{refl}
 use seplogic.Ra.Ura.{Ura}
 use mir.Syntax.{named, w64}

@@ -1,5 +1,5 @@
 -- `walks::run_at` meets its contract: the run's first rules refuse, or the steps are made over what is worked out.
-use Rattle.core.specs.Prelude.{◌≡◌, ℕ, ◌/◌, Bool, true, List, length, ℤ}
+use Rattle.std.specs.Prelude.{◌≡◌, ℕ, ◌/◌, Bool, true, List, length, ℤ}
 use mathlib.Core.Path.{refl, sym, ◌∙◌, ap, subst}
 use native.Mathlib.Omega.{arith}
 use native.Mathlib.Nat.{min-le_right}

@@ -1,5 +1,5 @@
 -- `walks::start_at` meets its contract: the list is refused, there is no row for it, or it is written at the first.
-use Rattle.core.specs.Prelude.{◌≡◌, ℕ, List}
+use Rattle.std.specs.Prelude.{◌≡◌, ℕ, List}
 use mathlib.Core.Path.{sym, ◌∙◌, ap}
 use borrow.Author.Rules.{rules}
 use Rattle.algebra.specs.Answer.{gives}

@@ -1,5 +1,5 @@
 -- `lists::edges::open` meets its contract: no shot so far has an open edge to a smaller one.
-use Rattle.core.specs.Prelude.{◌≡◌, ℕ, ◌-◌, ◌≤◌, Bool, false, List}
+use Rattle.std.specs.Prelude.{◌≡◌, ℕ, ◌-◌, ◌≤◌, Bool, false, List}
 use borrow.Author.Rules.{rules}
 use Rattle.algebra.specs.Loops.{any}
 use Rattle.algebra.specs.Words.{both_of, alone_of, row_of}

@@ -1,6 +1,6 @@
 -- `lists::core::prepare` meets its contract: the rows are written part by part, each part behind those that it reads.
 use mathlib.Core.Path.{refl}
-use Rattle.core.specs.Prelude.{ℕ, ◌+◌, ◌*◌, ◌≤◌, List, length, ℤ}
+use Rattle.std.specs.Prelude.{ℕ, ◌+◌, ◌*◌, ◌≤◌, List, length, ℤ}
 use native.Mathlib.Omega.{arith}
 use borrow.Author.Rules.{rules}
 use Rattle.shots.specs.Sizes.{shots_most}

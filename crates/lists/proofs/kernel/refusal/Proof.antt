@@ -1,5 +1,5 @@
 -- `lists::core::refusal` meets its contract: the tests by sets of triples, in the order of their numbers.
-use Rattle.core.specs.Prelude.{◌≡◌, ◌≤◌, Bool, not}
+use Rattle.std.specs.Prelude.{◌≡◌, ◌≤◌, Bool, not}
 use mathlib.Core.Path.{sym, ◌∙◌, ap}
 use mathlib.Core.Bool.{not-not}
 use native.Mathlib.Omega.{arith}

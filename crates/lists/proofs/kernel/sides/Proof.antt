@@ -1,5 +1,5 @@
 -- `lists::core::sides` meets its contract: the rows written so far, and the holders below them, which stay.
-use Rattle.core.specs.Prelude.{◌≡◌, ◌-◌, ◌≤◌, length, get_or}
+use Rattle.std.specs.Prelude.{◌≡◌, ◌-◌, ◌≤◌, length, get_or}
 use mathlib.Core.Path.{refl, ◌∙◌, ap}
 use native.Mathlib.Omega.{arith}
 use borrow.Author.Rules.{rules}

@@ -1,5 +1,5 @@
 -- `ready::core::prepare` meets its contract: the stars are written behind what a test reads, those of the plus sides and then those of the minus sides.
-use Rattle.core.specs.Prelude.{ℕ, ◌+◌, ◌*◌, ◌^◌, ◌<◌, ◌≤◌, List, length, get_or, ℤ}
+use Rattle.std.specs.Prelude.{ℕ, ◌+◌, ◌*◌, ◌^◌, ◌<◌, ◌≤◌, List, length, get_or, ℤ}
 use native.Mathlib.Omega.{arith}
 use borrow.Author.Rules.{rules}
 use Rattle.shots.specs.Sizes.{shots_most, mask_bits}

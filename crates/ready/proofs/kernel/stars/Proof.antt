@@ -1,5 +1,5 @@
 -- `ready::core::stars` meets its contract: the rows written so far, and the holders below them, which stay.
-use Rattle.core.specs.Prelude.{◌≡◌, ◌-◌, ◌≤◌, length}
+use Rattle.std.specs.Prelude.{◌≡◌, ◌-◌, ◌≤◌, length}
 use mathlib.Core.Path.{refl}
 use native.Mathlib.Omega.{arith}
 use borrow.Author.Rules.{rules}

@@ -1,5 +1,5 @@
 -- `report::lines::first` meets its contract: each number of the line is the one that its function counts.
-use Rattle.core.specs.Prelude.{◌≡◌, ℕ, List, length, ℤ}
+use Rattle.std.specs.Prelude.{◌≡◌, ℕ, List, length, ℤ}
 use native.Mathlib.Omega.{arith}
 use borrow.Author.Rules.{rules}
 use Rattle.algebra.specs.Loops.{tally}

@@ -1,5 +1,5 @@
 -- `report::lines::shown` meets its contract: the first line, the last line, or the line of a row.
-use Rattle.core.specs.Prelude.{◌≡◌, ℕ, List}
+use Rattle.std.specs.Prelude.{◌≡◌, ℕ, List}
 use mathlib.Core.Path.{sym, ◌∙◌, ap}
 use borrow.Author.Rules.{rules}
 use Rattle.algebra.specs.Words.{row_of}

@@ -1,5 +1,5 @@
 -- `report::walked::ended` meets its contract: each answer is told as its definition says.
-use Rattle.core.specs.Prelude.{◌≡◌, ℕ, List}
+use Rattle.std.specs.Prelude.{◌≡◌, ℕ, List}
 use mathlib.Core.Path.{sym, ap}
 use borrow.Author.Rules.{rules}
 use Rattle.walks.specs.Calls.{read_stepped}

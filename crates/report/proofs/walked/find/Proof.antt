@@ -1,5 +1,5 @@
 -- `report::walked::find` meets its contract: the record is refused, or the patch read is walked.
-use Rattle.core.specs.Prelude.{◌≡◌, ℕ, ◌*◌, List, take, ℤ}
+use Rattle.std.specs.Prelude.{◌≡◌, ℕ, ◌*◌, List, take, ℤ}
 use mathlib.Core.Path.{sym, ◌∙◌, ap}
 use native.Mathlib.Omega.{arith}
 use borrow.Author.Rules.{rules}

@@ -1,5 +1,5 @@
 -- `report::walked::from` meets its contract: a start in a table of zeros, a run that is long enough, and what its end is told as.
-use Rattle.core.specs.Prelude.{◌≡◌, ℕ, List, replicate, ℤ}
+use Rattle.std.specs.Prelude.{◌≡◌, ℕ, List, replicate, ℤ}
 use mathlib.Core.Path.{◌∙◌, ap}
 use borrow.Author.Rules.{rules}
 use Rattle.algebra.specs.Answer.{Answer}

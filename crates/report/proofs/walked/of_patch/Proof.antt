@@ -1,6 +1,6 @@
 -- `report::walked::of_patch` meets its contract: the walk from the placing surface, or the number that refuses it.
 use mathlib.Core.Path.{sym, ◌∙◌, ap}
-use Rattle.core.specs.Prelude.{ℕ, List}
+use Rattle.std.specs.Prelude.{ℕ, List}
 use borrow.Author.Rules.{rules}
 use Rattle.surfaces.specs.Calls.{read_surface}
 use Rattle.report.specs.Report.{read_found}

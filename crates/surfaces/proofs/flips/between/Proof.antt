@@ -1,5 +1,5 @@
 -- `surfaces::flips::between` meets its contract: by whether the list has anything of either star, and whether the first side's pieces are supported.
-use Rattle.core.specs.Prelude.{◌≡◌, ℕ, Bool, true, false, cond, ◌||◌, List}
+use Rattle.std.specs.Prelude.{◌≡◌, ℕ, Bool, true, false, cond, ◌||◌, List}
 use mathlib.Core.Path.{refl, sym, ◌∙◌, ap}
 use mathlib.Core.Bool.{true≢false}
 use native.Mathlib.Omega.{arith}

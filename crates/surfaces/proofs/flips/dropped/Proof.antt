@@ -1,6 +1,6 @@
 -- `surfaces::flips::dropped` meets its contract.
 use mathlib.Core.Path.{◌∙◌, ap}
-use Rattle.core.specs.Prelude.{ℕ, ◌-◌, ◌^◌}
+use Rattle.std.specs.Prelude.{ℕ, ◌-◌, ◌^◌}
 use lib.Bits.{bit_and}
 use borrow.Author.Rules.{rules}
 use Rattle.algebra.proofs.BitOps.{one_shl, and_clear}

@@ -1,5 +1,5 @@
 -- `surfaces::flips::exchange` meets its contract: each answer by the tests that led to it.
-use Rattle.core.specs.Prelude.{◌≡◌, ℕ, Bool, true, false, cond, List}
+use Rattle.std.specs.Prelude.{◌≡◌, ℕ, Bool, true, false, cond, List}
 use mathlib.Core.Path.{refl, sym, ◌∙◌, ap}
 use native.Mathlib.Omega.{arith}
 use borrow.Author.Rules.{rules}

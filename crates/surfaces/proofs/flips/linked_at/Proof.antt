@@ -1,5 +1,5 @@
 -- `surfaces::flips::linked_at` meets its contract: each answer by the test that led to it.
-use Rattle.core.specs.Prelude.{◌≡◌, ℕ, Bool, true, false, ◌&&◌, List}
+use Rattle.std.specs.Prelude.{◌≡◌, ℕ, Bool, true, false, ◌&&◌, List}
 use mathlib.Core.Path.{refl, sym, ◌∙◌, ap}
 use borrow.Author.Rules.{rules}
 use borrow.Author.Tests.{not-true, not-false}

@@ -1,5 +1,5 @@
 -- `surfaces::placed::across` meets its contract: the triples of the edge meet row v, and the two signs are opposite.
-use Rattle.core.specs.Prelude.{◌≡◌, true, ◌&&◌}
+use Rattle.std.specs.Prelude.{◌≡◌, true, ◌&&◌}
 use mathlib.Core.Path.{sym, ◌∙◌, ap}
 use borrow.Author.Rules.{rules}
 use borrow.Author.Tests.{not-true, not-false}

@@ -1,5 +1,5 @@
 -- `surfaces::placed::next` meets its contract: 0, 1 and the third of the first three shots are passed over.
-use Rattle.core.specs.Prelude.{◌≡◌, ℕ, Bool, true, false, ◌||◌, eqb, ◌⊎◌, List, ℤ}
+use Rattle.std.specs.Prelude.{◌≡◌, ℕ, Bool, true, false, ◌||◌, eqb, ◌⊎◌, List, ℤ}
 use mathlib.Core.Path.{refl, sym, ◌∙◌, ap}
 use mathlib.Core.Logic.{inl, inr, ⊎_elim}
 use borrow.Author.Rules.{rules}

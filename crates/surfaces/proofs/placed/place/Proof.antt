@@ -1,5 +1,5 @@
 -- `surfaces::placed::place` meets its contract: the list is folded over the shots so far.
-use Rattle.core.specs.Prelude.{◌≡◌, ◌-◌, ◌≤◌}
+use Rattle.std.specs.Prelude.{◌≡◌, ◌-◌, ◌≤◌}
 use borrow.Author.Rules.{rules}
 use Rattle.algebra.specs.Loops.{fold}
 use Rattle.algebra.proofs.LoopLaws.{fold_none, fold_more, fold_end}

@@ -1,5 +1,5 @@
 -- `surfaces::placed::with_edge` meets its contract: joining the triples that hold i, j and m puts that triple in.
-use Rattle.core.specs.Prelude.{◌≡◌, true}
+use Rattle.std.specs.Prelude.{◌≡◌, true}
 use mathlib.Core.Path.{sym, ◌∙◌, ap}
 use native.Mathlib.Omega.{arith}
 use borrow.Author.Rules.{rules}

@@ -1,6 +1,6 @@
 -- `walks::index::behind` meets its contract: from the last row down to the ones that the index covers, none so far is the list.
 use mathlib.Core.Path.{sym, ◌∙◌}
-use Rattle.core.specs.Prelude.{◌≤◌}
+use Rattle.std.specs.Prelude.{◌≤◌}
 use native.Mathlib.Nat.{le-min, min-le_left}
 use borrow.Author.Rules.{rules}
 use Rattle.triples.specs.Sizes.{word_count}

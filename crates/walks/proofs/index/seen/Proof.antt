@@ -1,5 +1,5 @@
 -- `walks::index::seen` meets its contract: the rows that the index does not cover, and then those of the list's place, from link to link.
-use Rattle.core.specs.Prelude.{◌≡◌, ◌+◌, ◌-◌, Bool, ◌||◌}
+use Rattle.std.specs.Prelude.{◌≡◌, ◌+◌, ◌-◌, Bool, ◌||◌}
 use mathlib.Core.Path.{sym, ◌∙◌, ap}
 use native.Mathlib.Omega.{arith}
 use borrow.Author.Rules.{rules}

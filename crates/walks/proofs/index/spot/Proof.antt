@@ -1,5 +1,5 @@
 -- `walks::index::spot` meets its contract: the words so far have led here, and the ones behind lead on to the place.
-use Rattle.core.specs.Prelude.{◌≡◌, ◌-◌, ◌<◌, ◌≤◌, drop}
+use Rattle.std.specs.Prelude.{◌≡◌, ◌-◌, ◌<◌, ◌≤◌, drop}
 use borrow.Author.Rules.{rules}
 use Rattle.triples.specs.Sizes.{word_count}
 use Rattle.triples.specs.Sets.{words_of}

@@ -1,5 +1,5 @@
 -- `walks::table::place` meets its contract: the list is a row, there is no row for it, or it is written at the next and put into the index.
-use Rattle.core.specs.Prelude.{◌≡◌, ℕ, ◌+◌, ◌*◌, ◌≤◌, false, List, length}
+use Rattle.std.specs.Prelude.{◌≡◌, ℕ, ◌+◌, ◌*◌, ◌≤◌, false, List, length}
 use mathlib.Core.Path.{refl, sym, ◌∙◌, ap, subst}
 use borrow.Author.Rules.{rules}
 use Rattle.algebra.specs.Answer.{gives}
