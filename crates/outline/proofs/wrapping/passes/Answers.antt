@@ -3,15 +3,13 @@ use mathlib.Core.Path.{◌≡◌, refl, sym, ◌∙◌, ap}
 use mathlib.Core.Bool.{Bool, true, false, not, ◌&&◌}
 use mathlib.Core.List.{List}
 use Prim.Native.Nat.{ℕ}
-use borrow.Author.Rules.{rules}
 use borrow.Author.Tests.{eq-eqb, ne_eqb}
 use lib.IntN.{ℤ}
 use Rattle.algebra.specs.Sign.{Sign, minus, nought, plus, is_nought, is_plus}
 use Rattle.algebra.proofs.SizeLaws.{sign_is_plus, sign_is_nought}
 use Rattle.shots.specs.Patch.{orient_of, before_of}
 use Rattle.outline.specs.Wrapping.{outer_of, passes_of}
-use Rattle.outline.proofs.wrapping.passes.Statement.{statement}
-use Rattle.outline.proofs.wrapping.passes.Tie as tie
+use Rattle.outline.proofs.wrapping.passes.Goals as goal
 
 -- a shot ahead of p, by its sign
 module _ (l : List ℤ) (b : Bool) (p q k : ℕ) (h : before_of l p k ≡ true) where
@@ -43,25 +41,22 @@ module _ (l : List ℤ) (b : Bool) (p q k : ℕ) (h : before_of l p k ≡ true) 
       go nought h i = cc
       go plus h i = cc
 
-returns : tie.Need-returns
-returns c =
+pub returns-then-sign-eq0 : goal.returns-then-sign-eq0
+returns-then-sign-eq0 c =
     let s = c.before.before in
-    c.precedes2.ensures ∙ along _ _ _ _ _ (sym s.before.before.precedes.ensures ∙ s.before.if1.true) (sym (sign_is_nought _ _ s.sign.ensures) ∙ eq-eqb _ _ c.before.if2.true)
+    c.precedes-then-sign-eq0.ensures ∙ along _ _ _ _ _ (sym s.precedes.ensures ∙ s.if-precedes.true) (sym (sign_is_nought _ _ s.sign-sign.ensures) ∙ eq-eqb _ _ c.if-sign-eq0.true)
 
-returns-2 : tie.Need-returns-2
-returns-2 c =
+pub returns-then-sign-eq1 : goal.returns-then-sign-eq1
+returns-then-sign-eq1 c =
     let s = c.before.before in
-    left _ _ _ _ _ (sym s.before.before.precedes.ensures ∙ s.before.if1.true) (sym (sign_is_plus _ _ s.sign.ensures) ∙ eq-eqb _ _ c.if3.true)
+    left _ _ _ _ _ (sym s.precedes.ensures ∙ s.if-precedes.true) (sym (sign_is_plus _ _ s.sign-sign.ensures) ∙ eq-eqb _ _ c.if-sign-eq1.true)
 
-returns-3 : tie.Need-returns-3
-returns-3 c =
+pub returns-then-precedes : goal.returns-then-precedes
+returns-then-precedes c =
     let s = c.before.before in
-    right _ _ _ _ _ (sym s.before.before.precedes.ensures ∙ s.before.if1.true)
-    (sym (sign_is_nought _ _ s.sign.ensures) ∙ ne_eqb _ _ c.before.if2.false) (sym (sign_is_plus _ _ s.sign.ensures) ∙ ne_eqb _ _ c.if3.false)
+    right _ _ _ _ _ (sym s.precedes.ensures ∙ s.if-precedes.true)
+    (sym (sign_is_nought _ _ s.sign-sign.ensures) ∙ ne_eqb _ _ c.if-sign-eq0.false) (sym (sign_is_plus _ _ s.sign-sign.ensures) ∙ ne_eqb _ _ c.if-sign-eq1.false)
 
-returns-4 : tie.Need-returns-4
+pub returns : goal.returns
 unfolding passes_of
-returns-4 c = simp (sym c.before.precedes.ensures ∙ c.if1.false)
-
-pub passes-spec : {M : Type 1} → statement M
-passes-spec = tie.close (tie.spec (λ c κs. search rules) (λ c κs. search rules) (λ c κs. search rules) returns returns-2 returns-3 returns-4)
+returns c = simp (sym c.precedes.ensures ∙ c.if-precedes.false)
