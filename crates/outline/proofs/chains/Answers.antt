@@ -88,8 +88,8 @@ module _ (f : After-fill) where
   room : f.fill.result ≡ room_of (south_of (l b)) (north_of (l b)) a.args.south.now a.args.north.now
   room = f.fill.ensures.0 ∙ (λ k. room_of (south-taken b k) (north-taken b k) a.args.south.now a.args.north.now)
 
-  filled : (f.fill.last.0 ≡ cond f.fill.result (wrote a.args.south.now 0 (south_of (l b))) a.args.south.now)
-      × (f.fill.last.1.0 ≡ cond f.fill.result (wrote a.args.north.now 0 (north_of (l b))) a.args.north.now)
+  filled : (f.fill.new.south ≡ cond f.fill.result (wrote a.args.south.now 0 (south_of (l b))) a.args.south.now)
+      × (f.fill.new.north ≡ cond f.fill.result (wrote a.args.north.now 0 (north_of (l b))) a.args.north.now)
   filled = (
     f.fill.ensures.1 ∙ (λ k. cond f.fill.result (wrote a.args.south.now 0 (south-taken b k)) a.args.south.now),
     f.fill.ensures.2 ∙ (λ k. cond f.fill.result (wrote a.args.north.now 0 (north-taken b k)) a.args.north.now),

@@ -1,0 +1,17 @@
+use mathlib.Core.Path.{◌≡◌}
+use mathlib.Core.List.{List}
+use Prim.Native.Nat.{ℕ, ◌+◌, ◌*◌, ◌-◌, ◌≤◌}
+use lib.ListN.{length, get_or, set}
+use Rattle.algebra.specs.Loops.{fold}
+use Rattle.triples.specs.Sizes.{word_count}
+use Rattle.triples.specs.Sets.{words_of}
+use Rattle.triples.proofs.rows.put_row.Given as goal
+
+abbrev pub step : ℕ → List ℕ → ℕ → List ℕ → List ℕ
+step p w i u = set u (word_count * p + i) (get_or w i 0)
+
+abbrev pub invariant-loop-i : goal.invariant-loop-i
+invariant-loop-i l = (l.i ≤ word_count) × (length l.table ≡ length l.initial.table) × (l.table ≡ fold (step l.p (words_of l.list)) l.initial.table l.i)
+
+abbrev pub decreases-loop-i : goal.decreases-loop-i
+decreases-loop-i l = word_count - l.i
