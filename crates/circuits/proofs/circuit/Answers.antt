@@ -59,11 +59,17 @@ returns-then-count-z c =
     rule_broken (l c.before.before.before) (circuit_rule (l c.before.before.before) (z c.before.before.before)) _ (run c.before.before.before).refusal-refusal.ensures (run c.before.before.before).if-refusal-ne0.false
     (ap (λ (n : ℕ). leb n (z c.before.before.before)) (counted c.before.before.before)) (le-leb t.all-count.result (z c.before.before.before) (omega (arith, c.if-count-z.true)))
 
+pub bounds-plus-z : goal.bounds-plus-z
+bounds-plus-z c = omega (arith, counted c.before.before.before, few c.before.before.before, c.if-count-z.false)
+
+pub offset_bounds-plus-z : goal.offset_bounds-plus-z
+offset_bounds-plus-z c = record { fits = omega (arith, counted c.before.before.before, few c.before.before.before, c.if-count-z.false) }
+
 pub bounds-minus-z : goal.bounds-minus-z
 bounds-minus-z c = let t = c.before.before.before in omega (arith, counted c.before.before.before, few c.before.before.before, c.if-count-z.false)
 
 pub offset_bounds-minus-z : goal.offset_bounds-minus-z
-offset_bounds-minus-z c = record { fits = omega (arith, low c) }
+offset_bounds-minus-z c = record { fits = omega (arith, counted c.before.before.before, few c.before.before.before, c.if-count-z.false) }
 
 pub returns : goal.returns
 unfolding circuit_call_of

@@ -104,10 +104,10 @@ pub overflow_shr-rest : goal.overflow_shr-rest
 overflow_shr-rest c = omega arith
 
 pub overflow_cast-result : goal.overflow_cast-result
-overflow_cast-result c = (λ d. omega (arith, trailing_le word_bits (rest d.before))) c
+overflow_cast-result c = omega (arith, trailing_le word_bits (rest c.before))
 
 pub overflow_add-result : goal.overflow_add-result
-overflow_add-result c = (λ d. omega (arith, trailing_le word_bits (rest d.before), d.loop-q-test.true)) c
+overflow_add-result c = omega (arith, trailing_le word_bits (rest c.before), c.loop-q-test.true)
 
 pub overflow_add-q : goal.overflow_add-q
 overflow_add-q c = omega arith
