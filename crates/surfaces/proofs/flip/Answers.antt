@@ -180,13 +180,13 @@ pub returns : goal.returns
 returns c = found_some _ _ (not-false c.between-turned.result.found c.if-not-turned.false) ∙ turned c.before.before.before
 
 pub offset_bounds-plus-z : goal.offset_bounds-plus-z
-offset_bounds-plus-z c = let n = c.before.before.before.before.before.before in record { fits = omega (arith, counted n, most n, c.if-count-z.false) }
+offset_bounds-plus-z c = let n = c.before.before in record { fits = omega (arith, counted n, most n, c.if-count-z.false) }
 
 pub bounds-plus-z : goal.bounds-plus-z
-bounds-plus-z c = let n = c.before.before.before.before.before.before in omega (arith, counted n, most n, c.if-count-z.false)
+bounds-plus-z c = let n = c.before.before in omega (arith, counted n, most n, c.if-count-z.false)
 
 pub offset_bounds-minus-z : goal.offset_bounds-minus-z
-offset_bounds-minus-z c = let n = c.before.before.before.before.before.before in record { fits = omega (arith, counted n, most n, c.if-count-z.false) }
+offset_bounds-minus-z c = let n = c.before.before in record { fits = omega (arith, counted n, most n, c.if-count-z.false) }
 
 pub bounds-minus-z : goal.bounds-minus-z
-bounds-minus-z c = let n = c.before.before.before.before.before.before in omega (arith, counted n, most n, c.if-count-z.false)
+bounds-minus-z c = let n = c.before.before in omega (arith, counted n, most n, c.if-count-z.false)
