@@ -2,15 +2,13 @@
 use mathlib.Core.Path.{◌≡◌, refl, sym, ◌∙◌, ap, subst}
 use Prim.Native.Nat.{ℕ, suc, ◌-◌, ◌^◌, ◌≤◌, ◌<◌}
 use native.Mathlib.Omega.{arith}
-use borrow.Author.Rules.{rules}
 use borrow.Author.Tests.{lt-ltb, le-ltb}
 use lib.IntN.{ℤ, pos, negsuc, ◌-ℤ◌}
 use mir.Syntax.{w32, w64}
 use mir.Val.{SFits, to_z, of_z}
 use mir.Facts.{to_z-of_z, to_z_pos}
 use Rattle.records.specs.Fields.{signed_of}
-use Rattle.records.proofs.fields.signed.Statement.{statement}
-use Rattle.records.proofs.fields.signed.Tie as tie
+use Rattle.records.proofs.fields.signed.Goals as goal
 
 low : (v : ℕ) → v < 2 ^ 31 → to_z w32 v ≡ signed_of v
 unfolding signed_of
@@ -34,19 +32,16 @@ module _ (v : ℕ) (h : v < 2 ^ 32) (k : 2 ^ 31 ≤ v) where
   unfolding signed_of
   coded = rw (le-ltb v (2 ^ 31) k) (ap negsuc (let e : 2 ^ 32 - suc v ≡ 2 ^ 32 - 1 - v = omega arith in e))
 
-sub-result : tie.Need-overflow-sub-result
-sub-result c = let a = c.before.args.v in subst (SFits w64) (sym (high a c.before.requires c.if1.false)) (wide a c.before.requires c.if1.false)
+pub overflow_sub-result : goal.overflow_sub-result
+overflow_sub-result c = let a = c.args.v in subst (SFits w64) (sym (high a c.requires c.if-v-lt2147483648.false)) (wide a c.requires c.if-v-lt2147483648.false)
 
-cast-result-3 : tie.Need-overflow-cast-result-3
-cast-result-3 c = let a = c.before.args.v in subst (SFits w32) (sym (own a c.before.requires c.if1.false)) (fits a c.before.requires c.if1.false)
+pub overflow_cast-result-else-v-lt2147483648-2 : goal.overflow_cast-result-else-v-lt2147483648-2
+overflow_cast-result-else-v-lt2147483648-2 c = let a = c.args.v in subst (SFits w32) (sym (own a c.requires c.if-v-lt2147483648.false)) (fits a c.requires c.if-v-lt2147483648.false)
 
-returns : tie.Need-returns
-returns c = low c.before.args.v c.if1.true
+pub returns-then-v-lt2147483648 : goal.returns-then-v-lt2147483648
+returns-then-v-lt2147483648 c = low c.args.v c.if-v-lt2147483648.true
 
-returns-2 : tie.Need-returns-2
-returns-2 c =
-    let a = c.before.args.v in
-    ap (λ (z : ℤ). to_z w32 (of_z w32 z)) (own a c.before.requires c.if1.false) ∙ to_z-of_z (fits a c.before.requires c.if1.false) ∙ coded a c.before.requires c.if1.false
-
-pub signed-spec : {M : Type 1} → statement M
-signed-spec = tie.close (tie.spec (λ c. search rules) (λ c. search rules) sub-result cast-result-3 returns returns-2)
+pub returns-else-v-lt2147483648 : goal.returns-else-v-lt2147483648
+returns-else-v-lt2147483648 c =
+    let a = c.args.v in
+    ap (λ (z : ℤ). to_z w32 (of_z w32 z)) (own a c.requires c.if-v-lt2147483648.false) ∙ to_z-of_z (fits a c.requires c.if-v-lt2147483648.false) ∙ coded a c.requires c.if-v-lt2147483648.false

@@ -11,8 +11,12 @@ use mir.Syntax.{w32, w64}
 use mir.Val.{SFits, Fits, to_z, of_z}
 use mir.Facts.{sfits_widen, to_z-of_z}
 use Rattle.records.specs.Fields.{code_of}
-use Rattle.records.proofs.fields.code.Statement.{statement}
-use Rattle.records.proofs.fields.code.Tie as tie
+use Rattle.records.proofs.fields.code.Lts
+use Rattle.records.proofs.fields.code.Reads
+use Rattle.records.proofs.fields.code.Goals as goal
+
+abbrev Start : Type 0
+Start = Lts.Start Reads.Pre Reads.Post
 
 below : (x : ℤ) → SFits w32 x → lt_z x (pos 0) ≡ true → x +ℤ pos 4294967296 ≡ pos (code_of x)
 unfolding code_of
@@ -29,25 +33,25 @@ unfolding code_of
 small (pos n) f = omega (arith, f.sfits)
 small (negsuc n) f = omega arith
 
-module _ (s : tie.Start) where
+module _ (s : Start) where
   wide : SFits w64 s.args.x
   wide = sfits_widen tt s.ranges.x
 
   read : to_z w32 (of_z w32 s.args.x) ≡ s.args.x
-  read = to_z-of_z s.fits.x
+  read = to_z-of_z s.ranges.x
 
   widened : to_z w64 (of_z w64 (to_z w32 (of_z w32 s.args.x))) ≡ s.args.x
   widened = ap (λ (z : ℤ). to_z w64 (of_z w64 z)) read ∙ to_z-of_z wide
 
   room : SFits w64 (pos (code_of s.args.x))
-  room = record { sfits = omega (arith, small s.args.x s.fits.x) }
+  room = record { sfits = omega (arith, small s.args.x s.ranges.x) }
 
   -- what a cast to unsigned asks of a number that is a code
   casts : (z : ℤ) → z ≡ pos (code_of s.args.x) → T (non_neg z) × Fits w64 (nat_abs z)
-  casts z e = simp e (tt, record { fits = omega (arith, small s.args.x s.fits.x) })
+  casts z e = simp e (tt, record { fits = omega (arith, small s.args.x s.ranges.x) })
 
   sum : lt_z (to_z w32 (of_z w32 s.args.x)) (pos 0) ≡ true → to_z w64 (of_z w64 (to_z w32 (of_z w32 s.args.x))) +ℤ pos 4294967296 ≡ pos (code_of s.args.x)
-  sum h = ap (λ (z : ℤ). z +ℤ pos 4294967296) widened ∙ below s.args.x s.fits.x (sym (ap (λ (z : ℤ). lt_z z (pos 0)) read) ∙ h)
+  sum h = ap (λ (z : ℤ). z +ℤ pos 4294967296) widened ∙ below s.args.x s.ranges.x (sym (ap (λ (z : ℤ). lt_z z (pos 0)) read) ∙ h)
 
   lifted : lt_z (to_z w32 (of_z w32 s.args.x)) (pos 0) ≡ true → to_z w64 (of_z w64 (to_z w64 (of_z w64 (to_z w32 (of_z w32 s.args.x))) +ℤ pos 4294967296)) ≡ pos (code_of s.args.x)
   lifted h = ap (λ (z : ℤ). to_z w64 (of_z w64 z)) (sum h) ∙ to_z-of_z room
@@ -55,23 +59,20 @@ module _ (s : tie.Start) where
   kept : lt_z (to_z w32 (of_z w32 s.args.x)) (pos 0) ≡ false → to_z w32 (of_z w32 s.args.x) ≡ pos (code_of s.args.x)
   kept h = read ∙ above s.args.x (sym (ap (λ (z : ℤ). lt_z z (pos 0)) read) ∙ h)
 
-cast-result : tie.Need-overflow-cast-result
-cast-result c = subst (SFits w64) (sym (read c.before)) (wide c.before)
+pub overflow_cast-result : goal.overflow_cast-result
+overflow_cast-result c = subst (SFits w64) (sym (read c.before)) (wide c.before)
 
-add-result : tie.Need-overflow-add-result
-add-result c = subst (SFits w64) (sym (sum c.before c.if1.true)) (room c.before)
+pub overflow_add-result : goal.overflow_add-result
+overflow_add-result c = subst (SFits w64) (sym (sum c.before c.if-x-lt0.true)) (room c.before)
 
-cast-result-2 : tie.Need-overflow-cast-result-2
-cast-result-2 c = casts c.before _ (lifted c.before c.if1.true)
+pub overflow_cast-result-then-x-lt0 : goal.overflow_cast-result-then-x-lt0
+overflow_cast-result-then-x-lt0 c = casts c.before _ (lifted c.before c.if-x-lt0.true)
 
-cast-result-3 : tie.Need-overflow-cast-result-3
-cast-result-3 c = casts c.before _ (kept c.before c.if1.false)
+pub overflow_cast-result-else-x-lt0 : goal.overflow_cast-result-else-x-lt0
+overflow_cast-result-else-x-lt0 c = casts c.before _ (kept c.before c.if-x-lt0.false)
 
-returns : tie.Need-returns
-returns c = ap nat_abs (lifted c.before c.if1.true)
+pub returns-then-x-lt0 : goal.returns-then-x-lt0
+returns-then-x-lt0 c = ap nat_abs (lifted c.before c.if-x-lt0.true)
 
-returns-2 : tie.Need-returns-2
-returns-2 c = ap nat_abs (kept c.before c.if1.false)
-
-pub code-spec : {M : Type 1} → statement M
-code-spec = tie.close (tie.spec cast-result add-result cast-result-2 cast-result-3 returns returns-2)
+pub returns-else-x-lt0 : goal.returns-else-x-lt0
+returns-else-x-lt0 c = ap nat_abs (kept c.before c.if-x-lt0.false)

@@ -4,32 +4,17 @@ use mathlib.Core.List.{List}
 use Prim.Native.Nat.{ℕ, ◌+◌, ◌*◌}
 use native.Mathlib.Omega.{arith}
 use native.Mathlib.Nat.{add-zero}
-use borrow.Author.Rules.{rules}
 use lib.ListN.{get_or}
 use Rattle.records.specs.Fields.{field_of}
-use Rattle.records.proofs.fields.two.Statement.{statement}
-use Rattle.records.proofs.fields.two.Tie as tie
+use Rattle.records.proofs.fields.two.Goals as goal
 
 field-two : (b : List ℕ) (at : ℕ) → 256 * get_or b at 0 + get_or b (at + 1) 0 ≡ field_of 2 b at
 unfolding field_of
 field-two b at = omega (arith, ap (λ k. get_or b k 0) (add-zero at))
 
-returns : tie.Need-returns
+pub returns : goal.returns
 returns c =
-    let a = c.before.before.before.before.before.args in
-    let x = c.before.before.wide.ensures in
-    let y = c.wide2.ensures in
+    let a = c.args in
+    let x = c.wide.ensures in
+    let y = c.wide-2.ensures in
     (omega (arith, field-two a.b.now a.at, x, y), omega (arith, x, y))
-
-pub two-spec : {M : Type 1} → statement M
-two-spec =
-    tie.close
-    (tie.spec
-    (λ c. search rules)
-    (λ c κs. search rules)
-    (λ c. search rules)
-    (λ c. search rules)
-    (λ c. search rules)
-    (λ c κs. search rules)
-    (λ c. search rules)
-    returns)
