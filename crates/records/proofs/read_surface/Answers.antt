@@ -19,9 +19,6 @@ use Rattle.records.proofs.read_surface.Goals as goal
 abbrev Else-refusal-ne0 : Type 0
 Else-refusal-ne0 = Lts.Else1 Tie.the-claims Reads.Pre Reads.Post
 
-abbrev After-read-read : Type 0
-After-read-read = Lts.After-read Tie.the-claims Reads.Pre Reads.Post
-
 pub returns-then-refusal-ne0 : goal.returns-then-refusal-ne0
 unfolding read_surface_of
 returns-then-refusal-ne0 c =
@@ -36,22 +33,18 @@ right e = sym e.refusal-refusal.ensures ∙ e.if-refusal-ne0.false
 pub read-read-requires : goal.read-read-requires
 read-read-requires c = (patch_few c.args.shots.now (right c.before)).1
 
--- what the record says by itself
-said : (p : After-read-read) → let a = p.args in framed_of (count_of a.shots.now) a.bytes.now ≡ read_surface p.read-read.result
-said p = sym p.read-read.ensures
-
 pub returns-in_default : goal.returns-in_default
 returns-in_default c =
     let a = c.args in
     let v = ap read_surface c.in_default.is in
-    v ∙ surface_unread a.shots.now a.bytes.now c.refusal-refusal.ensures c.if-refusal-ne0.false (said c.before.before.before ∙ v)
+    v ∙ surface_unread a.shots.now a.bytes.now c.refusal-refusal.ensures c.if-refusal-ne0.false (sym c.read-read.ensures ∙ v)
 
 pub returns-in-Accepted : goal.returns-in-Accepted
 returns-in-Accepted c =
     let a = c.args in
-    surface_read a.shots.now a.bytes.now c.refusal-refusal.ensures c.if-refusal-ne0.false (said c.before.before.before.before.before.before.before ∙ ap read_surface c.in-List.is) (sym c.test.ensures ∙ ap read_tested c.in-Accepted.is)
+    surface_read a.shots.now a.bytes.now c.refusal-refusal.ensures c.if-refusal-ne0.false (sym c.read-read.ensures ∙ ap read_surface c.in-List.is) (sym c.test.ensures ∙ ap read_tested c.in-Accepted.is)
 
 pub returns-in-Refused : goal.returns-in-Refused
 returns-in-Refused c =
     let a = c.args in
-    surface_untested a.shots.now a.bytes.now c.refusal-refusal.ensures c.if-refusal-ne0.false (said c.before.before.before.before.before.before.before.before ∙ ap read_surface c.in-List.is) (sym c.test.ensures ∙ ap read_tested c.in-Refused.is)
+    surface_untested a.shots.now a.bytes.now c.refusal-refusal.ensures c.if-refusal-ne0.false (sym c.read-read.ensures ∙ ap read_surface c.in-List.is) (sym c.test.ensures ∙ ap read_tested c.in-Refused.is)

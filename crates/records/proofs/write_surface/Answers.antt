@@ -1,9 +1,10 @@
 -- `records::write_surface` meets its contract: the list is refused, the buffer is too short, or the record is written.
 use mathlib.Core.Path.{◌≡◌, sym, ◌∙◌, ap}
-use mathlib.Core.List.{◌++◌}
-use Prim.Native.Nat.{◌≤◌}
+use mathlib.Core.List.{List, ◌++◌}
+use Prim.Native.Nat.{ℕ, ◌≤◌}
 use native.Mathlib.Omega.{arith}
 use lib.ListN.{length}
+use lib.IntN.{ℤ}
 use Rattle.algebra.specs.Answer.{gives}
 use Rattle.shots.specs.Sizes.{shots_most}
 use Rattle.shots.specs.Patch.{count_of}
@@ -22,24 +23,17 @@ use Rattle.records.proofs.write_surface.Reads
 use Rattle.records.proofs.write_surface.Tie
 use Rattle.records.proofs.write_surface.Goals as goal
 
-abbrev In-Accepted : Type 0
-In-Accepted = Lts.After-enum_told Tie.the-claims Reads.Pre Reads.Post
-
 abbrev After-size-size : Type 0
 After-size-size = Lts.After-size2 Tie.the-claims Reads.Pre Reads.Post
 
--- the list was accepted
-accepted : (m : In-Accepted) → let a = m.args in test_of a.shots.now (words_of a.list) ≡ gives tt
-accepted m = sym m.test.ensures ∙ ap read_tested m.in-Accepted.is
-
-few : (m : In-Accepted) → count_of m.args.shots.now ≤ shots_most
-few m = let a = m.args in (patch_few a.shots.now (tested_right a.shots.now (words_of a.list) (accepted m))).1
+few : (l : List ℤ) (w : List ℕ) → test_of l w ≡ gives tt → count_of l ≤ shots_most
+few l w h = (patch_few l (tested_right l w h)).1
 
 pub size-t-requires : goal.size-t-requires
-size-t-requires c = few c.before
+size-t-requires c = few _ _ (sym c.test.ensures ∙ ap read_tested c.in-Accepted.is)
 
 pub size-size-requires : goal.size-size-requires
-size-size-requires c = let a = c.args in omega (arith, c.size-t.ensures, size_few (count_of a.shots.now) (words_of a.list) (few c.before.before))
+size-size-requires c = let a = c.args in omega (arith, c.size-t.ensures, size_few (count_of a.shots.now) (words_of a.list) (few _ _ (sym c.test.ensures ∙ ap read_tested c.in-Accepted.is)))
 
 -- the size is that of the record
 sized : (p : After-size-size) → let a = p.args in p.size-size.result ≡ length (surface_bytes (count_of a.shots.now) (words_of a.list))
@@ -53,11 +47,11 @@ returns-then-buffer-size c =
     let a = c.args in
     let l = a.shots.now in
     let w = words_of a.list in
-    write_short (shot_rules l ++ list_rules l w) (surface_bytes (count_of l) w) a.buffer.now (accepted c.before.before.before.before) (omega (arith, sized c.before.before, c.if-buffer-size.true))
+    write_short (shot_rules l ++ list_rules l w) (surface_bytes (count_of l) w) a.buffer.now (sym c.test.ensures ∙ ap read_tested c.in-Accepted.is) (omega (arith, sized c.before.before, c.if-buffer-size.true))
 
 pub put-requires : goal.put-requires
 put-requires c =
-    (few c.before.before.before.before, c.size-t.ensures, omega (arith, c.size-size.ensures, c.if-buffer-size.false))
+    (few _ _ (sym c.test.ensures ∙ ap read_tested c.in-Accepted.is), c.size-t.ensures, omega (arith, c.size-size.ensures, c.if-buffer-size.false))
 
 pub returns-in-Refused : goal.returns-in-Refused
 unfolding write_surface_of test_of
@@ -73,4 +67,4 @@ returns-else-buffer-size c =
     let a = c.args in
     let l = a.shots.now in
     let w = words_of a.list in
-    write_done (shot_rules l ++ list_rules l w) (surface_bytes (count_of l) w) a.buffer.now (accepted c.before.before.before.before.before.before.before.before) (omega (arith, sized c.before.before.before.before.before.before, c.if-buffer-size.false)) (sized c.before.before.before.before.before.before) c.put.ensures
+    write_done (shot_rules l ++ list_rules l w) (surface_bytes (count_of l) w) a.buffer.now (sym c.test.ensures ∙ ap read_tested c.in-Accepted.is) (omega (arith, sized c.before.before.before.before.before.before, c.if-buffer-size.false)) (sized c.before.before.before.before.before.before) c.put.ensures

@@ -53,7 +53,7 @@ unfolding refusal
 returns-then-n-lt-SHOTS_LEAST c =
     let n = get_or c.args.b.now 3 0 in
     let t : (ltb n shots_least || ltb shots_most n) ≡ true =
-    ⊎_elim (λ p. rw (lt-ltb n shots_least p.true) refl) (λ p. rw (le-ltb n shots_least p.0.false) p.1.true) c.then-n-lt-SHOTS_LEAST.branch in
+    ⊎_elim (λ p. rw (lt-ltb n shots_least p) refl) (λ p. rw (le-ltb n shots_least p.0) (lt-ltb shots_most n p.1)) c.then-n-lt-SHOTS_LEAST.either in
     rw (fits c.before.before.before.before.before, eq-eqb _ version c.if-b-ne-VERSION.false, t) refl
 
 pub two-field-requires : goal.two-field-requires
@@ -61,7 +61,7 @@ two-field-requires c = omega (arith, long c.before.before.before.before.before.b
 
 -- the number of shots is right
 few : (d : Else-n-gt-SHOTS_MOST) → get_or d.args.b.now 3 0 ≤ shots_most
-few d = ltb-false shots_most _ d.if-n-gt-SHOTS_MOST.false
+few d = d.if-n-gt-SHOTS_MOST.false
 
 pub overflow_mul-size : goal.overflow_mul-size
 overflow_mul-size c = omega (arith, few c.before.before)
@@ -75,7 +75,7 @@ last : (d : Else-n-gt-SHOTS_MOST) (t : Bool) → let b = d.args.b.now in
 unfolding refusal
 last d t h =
     let e = d.before.before.before in
-    rw (fits e.before.before, eq-eqb _ version e.if-b-ne-VERSION.false, le-ltb _ shots_least d.then-n-lt-SHOTS_LEAST.false, d.if-n-gt-SHOTS_MOST.false, h) refl
+    rw (fits e.before.before, eq-eqb _ version e.if-b-ne-VERSION.false, le-ltb _ shots_least d.if-n-lt-SHOTS_LEAST.false, le-ltb shots_most _ d.if-n-gt-SHOTS_MOST.false, h) refl
 
 pub returns-then-field-size : goal.returns-then-field-size
 returns-then-field-size c = last c.before.before.before false (ap not (eq-eqb _ _ (sym c.two-field.ensures.0 ∙ c.if-field-size.true)))
