@@ -7,9 +7,9 @@ use Rattle.patch.proofs.patch_cocircuit.Goals as goal
 pub returns-in-Refused : goal.returns-in-Refused
 returns-in-Refused c =
     let e = c.cocircuit-out.ensures in
-    returned_beside read_accepted _ c.in-Refused.is (ap (λ (z : Cocircuit). z.answer-1) e) (ap (λ (z : Cocircuit). z.signs) e)
+    returned_beside read_accepted _ c.in-Refused.is (ap (λ (z : Cocircuit). z.answer) e) (ap (λ (z : Cocircuit). z.signs) e)
 
 pub returns-in-Accepted : goal.returns-in-Accepted
 returns-in-Accepted c =
     let e = c.cocircuit-out.ensures in
-    returned_beside read_accepted _ c.in-Accepted.is (ap (λ (z : Cocircuit). z.answer-1) e) (ap (λ (z : Cocircuit). z.signs) e)
+    returned_beside read_accepted _ c.in-Accepted.is (ap (λ (z : Cocircuit). z.answer) e) (ap (λ (z : Cocircuit). z.signs) e)

@@ -8,23 +8,16 @@ use Rattle.triples.specs.Sizes.{word_count}
 use Rattle.surfaces.specs.Calls.{read_surface, flip_of}
 use Rattle.algebra.proofs.WordLaws.{row_whole}
 use Rattle.patch.proofs.ReturnLaws.{returned, returned_list}
-use Rattle.patch.proofs.patch_flip.Lts
-use Rattle.patch.proofs.patch_flip.Reads
-use Rattle.patch.proofs.patch_flip.Tie
 use Rattle.patch.proofs.patch_flip.Goals as goal
 
-abbrev After-flip : Type 0
-After-flip = Lts.After-flip Tie.the-claims Reads.Pre Reads.Post
-
 -- the set that is flipped has the list's words
-answered : (c : After-flip) → let a = c.args in read_surface c.flip.result ≡ flip_of a.shots.now a.list.now a.z
-answered c =
-    let a = c.args in
-    c.flip.ensures ∙ ap (λ (w : List ℕ). flip_of a.shots.now w a.z) (c.row_at.ensures ∙ row_whole word_count _ (omega arith))
-
 pub returns-in-Refused : goal.returns-in-Refused
-returns-in-Refused c = returned read_surface _ c.in-Refused.is (answered c.before.before.before)
+returns-in-Refused c =
+    let a = c.args in
+    returned read_surface _ c.in-Refused.is (c.flip.ensures ∙ ap (λ (w : List ℕ). flip_of a.shots.now w a.z) (c.row_at.ensures ∙ row_whole word_count _ (omega arith)))
 
 pub returns-in-List : goal.returns-in-List
 returns-in-List c =
-    returned_list c.args.list.now _ (omega arith) (omega arith) c.put_row.ensures (in_case read_surface c.in-List.is (answered c.before.before.before.before.before))
+    let a = c.args in
+    returned_list a.list.now _ (omega arith) (omega arith) c.put_row.ensures
+    (in_case read_surface c.in-List.is (c.flip.ensures ∙ ap (λ (w : List ℕ). flip_of a.shots.now w a.z) (c.row_at.ensures ∙ row_whole word_count _ (omega arith))))

@@ -3,7 +3,7 @@ use Rattle.patch.proofs.ReturnLaws.{returned_patch}
 use Rattle.patch.proofs.patch_take_runs.Goals as goal
 
 pub returns-in-Refused : goal.returns-in-Refused
-returns-in-Refused c = returned_patch _ _ c.Take-runs.result c.in-Refused.is c.Take-runs.ensures
+returns-in-Refused c = returned_patch _ _ c.take_runs-taken.result c.in-Refused.is c.take_runs-taken.ensures
 
 pub returns-in-Shots : goal.returns-in-Shots
-returns-in-Shots c = returned_patch _ _ c.Take-runs.result c.in-Shots.is c.Take-runs.ensures
+returns-in-Shots c = returned_patch _ _ c.take_runs-taken.result c.in-Shots.is c.take_runs-taken.ensures

@@ -7,23 +7,15 @@ use Rattle.triples.specs.Sizes.{word_count}
 use Rattle.records.specs.Calls.{left_in, write_surface_of}
 use Rattle.algebra.proofs.WordLaws.{row_whole}
 use Rattle.patch.proofs.ReturnLaws.{returned_writing}
-use Rattle.patch.proofs.patch_write_surface.Lts
-use Rattle.patch.proofs.patch_write_surface.Reads
-use Rattle.patch.proofs.patch_write_surface.Tie
 use Rattle.patch.proofs.patch_write_surface.Goals as goal
 
-abbrev After-write_surface : Type 0
-After-write_surface = Lts.After-write_surface Tie.the-claims Reads.Pre Reads.Post
-
 -- the set that is written has the list's words
-answered : (c : After-write_surface) → let a = c.args in
-    left_in c.write_surface.new.buffer c.write_surface.result ≡ write_surface_of a.shots.now a.list.now a.buffer-1.now
-answered c =
-    let a = c.args in
-    c.write_surface.ensures ∙ ap (λ (w : List ℕ). write_surface_of a.shots.now w a.buffer-1.now) (c.row_at.ensures ∙ row_whole word_count _ (omega arith))
-
 pub returns-in-Refused : goal.returns-in-Refused
-returns-in-Refused c = returned_writing _ _ c.in-Refused.is (answered c.before.before.before.before.before.before)
+returns-in-Refused c =
+    let a = c.args in
+    returned_writing _ _ c.in-Refused.is (c.write_surface.ensures ∙ ap (λ (w : List ℕ). write_surface_of a.shots.now w a.buffer.now) (c.row_at.ensures ∙ row_whole word_count _ (omega arith)))
 
 pub returns-in-Bytes : goal.returns-in-Bytes
-returns-in-Bytes c = returned_writing _ _ c.in-Bytes.is (answered c.before.before.before.before.before.before)
+returns-in-Bytes c =
+    let a = c.args in
+    returned_writing _ _ c.in-Bytes.is (c.write_surface.ensures ∙ ap (λ (w : List ℕ). write_surface_of a.shots.now w a.buffer.now) (c.row_at.ensures ∙ row_whole word_count _ (omega arith)))

@@ -25,10 +25,10 @@ use mathlib.Core.Bool.{not}
 use Rattle.report.proofs.lines.part.Goals as goal
 
 abbrev After-read_patch-patch : Type 0
-After-read_patch-patch = Lts.After-read_patch Tie.the-claims Reads.Pre Reads.Post
+After-read_patch-patch = Lts.After-read_patch Tie.the-claims Reads.Pre Reads.Post Tie.handed_clauses
 
 abbrev Start : Type 0
-Start = Lts.Start Tie.the-claims Reads.Pre Reads.Post
+Start = Lts.Start Tie.the-claims Reads.Pre Reads.Post Tie.handed_clauses
 
 -- so many bytes stand at the front
 counts : (u : List ℕ) (r : ℕ) → r ≤ length u → IsPrefixLen r u
@@ -39,11 +39,12 @@ returns-then-not-found c =
     let b = c.args.bytes.now in
     let e = c.refused.ensures in
     let k : length c.refused.new.out ≡ part_most = search rules in
-    let hidden : (find_of b).shown ≡ false = ap (λ (f : Find). f.shown) (sym c.requires.0) ∙ not-true _ (ap not c.if-not-found.true) in (
-      counts c.refused.new.out c.refused.result (omega (arith, k, e.1)),
-      put_same c.args.out.now 0 c.refused.new.out
-          (sym (part-refused (coordinates_of b) (find_of b) c.args.from c.args.to hidden c.requires.1 c.requires.2 ∙ ap (λ (f : Find). refused_line f.number) (sym c.requires.0))) e.0,
-    )
+    let hidden : (find_of b).shown ≡ false = ap (λ (f : Find). f.shown) (sym c.requires.0) ∙ not-true _ c.if-not-found.true in
+    record {
+      prefix_len = counts c.refused.new.out c.refused.result (omega (arith, k, e.1));
+      put = put_same c.args.out.now 0 c.refused.new.out
+          (sym (part-refused (coordinates_of b) (find_of b) c.args.from c.args.to hidden c.requires.1 c.requires.2 ∙ ap (λ (f : Find). refused_line f.number) (sym c.requires.0))) e.0;
+    }
 
 -- what the reader gave: the shots that byte 3 counts
 module _ (r : After-read_patch-patch) where
@@ -57,7 +58,7 @@ module _ (r : After-read_patch-patch) where
   shots = get_or bytes 3 0
 
   shown : start.args.found.shown ≡ true
-  shown = not-false _ (ap not r.if-not-found.false)
+  shown = not-false _ r.if-not-found.false
 
   seen : (find_of bytes).shown ≡ true
   seen = ap (λ (f : Find). f.shown) (sym start.requires.0) ∙ shown
@@ -65,7 +66,7 @@ module _ (r : After-read_patch-patch) where
   given : (read_patch_of bytes).answer ≡ gives shots
   given = let (n, e) = find-accepted bytes seen in e ∙ ap (λ k. gives k) (sym (shots_count bytes n e).0)
 
-  front : take (2 * shots) r.read_patch-patch.result.coordinates-1 ≡ coordinates_of bytes
+  front : take (2 * shots) r.read_patch-patch.result.coordinates ≡ coordinates_of bytes
   front = shots-front bytes shots given r.read_patch-patch.result r.read_patch-patch.ensures
 
 pub bounds-bytes-3 : goal.bounds-bytes-3
@@ -106,7 +107,8 @@ pub returns : goal.returns
 returns c =
     let s = start c.before.before.before.before.before.before.before in
     let e = c.from_to.ensures in
-    let k : length c.from_to.new.out ≡ part_most = search rules in (
-      counts c.from_to.new.out c.from_to.result (omega (arith, k, e.1, s.requires.3)),
-      put_same s.args.out.now 0 c.from_to.new.out (lines_are (bytes c.before.before.before.before.before.before.before) s.args.from s.args.to (front c.before.before.before.before.before.before.before) s.requires.0 (shown c.before.before.before.before.before.before.before)) e.0,
-    )
+    let k : length c.from_to.new.out ≡ part_most = search rules in
+    record {
+      prefix_len = counts c.from_to.new.out c.from_to.result (omega (arith, k, e.1, s.requires.3));
+      put = put_same s.args.out.now 0 c.from_to.new.out (lines_are (bytes c.before.before.before.before.before.before.before) s.args.from s.args.to (front c.before.before.before.before.before.before.before) s.requires.0 (shown c.before.before.before.before.before.before.before)) e.0;
+    }

@@ -26,7 +26,7 @@ module _ (a : After-walk-1) where
   start = a.before.before.before.before
 
   abbrev ended : Ended
-  ended = ended_in start.args.table.now start.args.found.walk-1
+  ended = ended_in start.args.table.now start.args.found.walk
 
 -- the line of a row that was read
 line-is : (n p : ℕ) (t : List ℕ) {w : List ℕ} → w ≡ row_of word_count t p → row_line n p w ≡ line_at n t p

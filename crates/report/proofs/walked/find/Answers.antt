@@ -16,16 +16,16 @@ use Rattle.report.proofs.walked.find.Reads
 use Rattle.report.proofs.walked.find.Tie
 use Rattle.report.proofs.walked.find.Goals as goal
 
-abbrev In-Shots-2 : Type 0
-In-Shots-2 = Lts.After-answer2 Tie.the-claims Reads.Pre Reads.Post
+abbrev In-Shots : Type 0
+In-Shots = Lts.Past-After-known_told2 Tie.the-claims Reads.Pre Reads.Post
 
 abbrev After-read_patch-patch : Type 0
 After-read_patch-patch = Lts.After-read_patch Tie.the-claims Reads.Pre Reads.Post
 
 -- what the reader gave: n shots
-module _ (m : In-Shots-2) where
+module _ (m : In-Shots) where
   abbrev read : After-read_patch-patch
-  read = m.before.before.before
+  read = m.before.before
 
   abbrev bytes : List ℕ
   bytes = read.args.bytes.now
@@ -33,31 +33,31 @@ module _ (m : In-Shots-2) where
   abbrev shots : ℕ
   shots = m.in-Shots.n
 
-  given : (read_patch_of bytes).answer-1 ≡ gives shots
-  given = sym (ap (λ (y : PatchRead). y.answer-1) read.read_patch-patch.ensures) ∙ ap read_patched m.in-Shots.is
+  given : (read_patch_of bytes).answer ≡ gives shots
+  given = sym (ap (λ (y : PatchRead). y.answer) read.read_patch-patch.ensures) ∙ ap read_patched m.in-Shots.is
 
-  front : take (2 * shots) read.read_patch-patch.result.coordinates-1 ≡ coordinates_of bytes
+  front : take (2 * shots) read.read_patch-patch.result.coordinates ≡ coordinates_of bytes
   front = shots-front bytes shots given read.read_patch-patch.result read.read_patch-patch.ensures
 
 pub overflow_mul-coordinates : goal.overflow_mul-coordinates
-overflow_mul-coordinates c = omega (arith, shots_few (bytes c.before.before) (shots c.before.before) (given c.before.before))
+overflow_mul-coordinates c = omega (arith, shots_few (bytes c.before) (shots c.before) (given c.before))
 
 pub slice_bounds-coordinates-end : goal.slice_bounds-coordinates-end
 slice_bounds-coordinates-end c =
-    omega (arith, shots_few (bytes c.before.before) (shots c.before.before) (given c.before.before), shots_wide (bytes c.before.before) (shots c.before.before) (given c.before.before) (read c.before.before).read_patch-patch.result (read c.before.before).read_patch-patch.ensures)
+    omega (arith, shots_few (bytes c.before) (shots c.before) (given c.before), shots_wide (bytes c.before) (shots c.before) (given c.before) (read c.before).read_patch-patch.result (read c.before).read_patch-patch.ensures)
 
 pub slice_bounds-of_patch-end : goal.slice_bounds-of_patch-end
-slice_bounds-of_patch-end c = shots_taken (bytes c.before.before.before) (shots c.before.before.before) (given c.before.before.before) (read c.before.before.before).read_patch-patch.result (read c.before.before.before).read_patch-patch.ensures
+slice_bounds-of_patch-end c = shots_taken (bytes c.before.before) (shots c.before.before) (given c.before.before) (read c.before.before).read_patch-patch.result (read c.before.before).read_patch-patch.ensures
 
 pub of_patch-requires : goal.of_patch-requires
 of_patch-requires c =
-    (ap refusal_of (front c.before.before.before.before) ∙ shots-accepted (bytes c.before.before.before.before) (shots c.before.before.before.before) (given c.before.before.before.before), (read c.before.before.before.before).requires)
+    (ap refusal_of (front c.before.before.before) ∙ shots-accepted (bytes c.before.before.before) (shots c.before.before.before) (given c.before.before.before), (read c.before.before.before).requires)
 
 pub returns-in-Refused : goal.returns-in-Refused
 returns-in-Refused c =
-    let refused : (read_patch_of c.args.bytes.now).answer-1 ≡ refuses c.in-Refused.number = sym (ap (λ (y : PatchRead). y.answer-1) c.read_patch-patch.ensures) ∙ ap read_patched c.in-Refused.is in
+    let refused : (read_patch_of c.args.bytes.now).answer ≡ refuses c.in-Refused.number = sym (ap (λ (y : PatchRead). y.answer) c.read_patch-patch.ensures) ∙ ap read_patched c.in-Refused.is in
     ap (λ (t : List ℕ). read_found c.refused.result t) c.requires ∙ c.refused.ensures ∙ sym (find-refused c.args.bytes.now _ refused)
 
 pub returns-in-Shots : goal.returns-in-Shots
 returns-in-Shots c =
-    c.of_patch.ensures ∙ ap (λ (l : List ℤ). placed_find l (placing_of l)) (front c.before.before.before.before.before) ∙ sym (find_read (bytes c.before.before.before.before.before) (shots c.before.before.before.before.before) (given c.before.before.before.before.before))
+    c.of_patch.ensures ∙ ap (λ (l : List ℤ). placed_find l (placing_of l)) (front c.before.before.before.before) ∙ sym (find_read (bytes c.before.before.before.before) (shots c.before.before.before.before) (given c.before.before.before.before))

@@ -27,11 +27,11 @@ module _ (l : List ℤ) (w : List ℕ) where
   -- a run from where the start ended
   run-from : (t : List ℕ) (v : WalkRecord) (a : Answer Begun) → leaves t v a ≡ begun_of l w → run_of (ground_of l) t v steps_most ≡ walk_of l w
   unfolding walk_of
-  run-from t v a e = λ k. run_of (ground_of l) (e k).table-1 (e k).walk-1 steps_most
+  run-from t v a e = λ k. run_of (ground_of l) (e k).table (e k).walk steps_most
 
-  find-of : (x : Landing Reply) → x ≡ walk_of l w → end_find (record { walk = x.walk-1; table = x.table-1 }) x.answer ≡ walk_find l w
+  find-of : (x : Landing Reply) → x ≡ walk_of l w → end_find (record { walk = x.walk; table = x.table }) x.answer ≡ walk_find l w
   unfolding walk_find
-  find-of x e = ap (λ (y : Landing Reply). end_find (record { walk = y.walk-1; table = y.table-1 }) y.answer) e
+  find-of x e = ap (λ (y : Landing Reply). end_find (record { walk = y.walk; table = y.table }) y.answer) e
 
 -- where the walk ends
 module _ (c : After-run_at-end) where
