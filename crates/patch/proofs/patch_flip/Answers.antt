@@ -1,5 +1,5 @@
 -- `patch::patch_flip` meets its contract: the room's answer on the list is returned as a number, and the list that it gives is written in its place.
-use mathlib.Core.Path.{◌≡◌, ◌∙◌, ap}
+use mathlib.Core.Path.{◌∙◌, ap}
 use mathlib.Core.List.{List}
 use Prim.Native.Nat.{ℕ}
 use native.Mathlib.Omega.{arith}

@@ -1,5 +1,5 @@
 -- `patch::patch_test` meets its contract: the room's answer on the list is returned as a number.
-use mathlib.Core.Path.{◌≡◌, ◌∙◌, ap}
+use mathlib.Core.Path.{◌∙◌, ap}
 use native.Mathlib.Omega.{arith}
 use Rattle.triples.specs.Sizes.{word_count}
 use Rattle.lists.specs.Calls.{read_tested, test_of}

@@ -1,10 +1,10 @@
 -- `patch::patch_write_surface` meets its contract: the room's answer on the list is returned as a number, and the number of bytes written is stored.
-use mathlib.Core.Path.{◌≡◌, ◌∙◌, ap}
+use mathlib.Core.Path.{◌∙◌, ap}
 use mathlib.Core.List.{List}
 use Prim.Native.Nat.{ℕ}
 use native.Mathlib.Omega.{arith}
 use Rattle.triples.specs.Sizes.{word_count}
-use Rattle.records.specs.Calls.{left_in, write_surface_of}
+use Rattle.records.specs.Calls.{write_surface_of}
 use Rattle.algebra.proofs.WordLaws.{row_whole}
 use Rattle.patch.proofs.ReturnLaws.{returned_writing}
 use Rattle.patch.proofs.patch_write_surface.Goals as goal

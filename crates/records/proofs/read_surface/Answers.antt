@@ -9,7 +9,7 @@ use Rattle.lists.specs.Tests.{list_rules}
 use Rattle.lists.specs.Calls.{read_tested}
 use Rattle.surfaces.specs.Calls.{read_surface}
 use Rattle.records.specs.Reading.{surface_frame, triple_rule, listed_of}
-use Rattle.records.specs.Calls.{framed_of, read_surface_of}
+use Rattle.records.specs.Calls.{read_surface_of}
 use Rattle.records.proofs.CallChains.{surface_unread, surface_untested, surface_read}
 use Rattle.records.proofs.read_surface.Lts
 use Rattle.records.proofs.read_surface.Reads

@@ -1,6 +1,6 @@
 -- `surfaces::flip` meets its contract: the chain stops at the run, at the list or at the circuit's number, or at the stars of the circuit's sides, neither of which is supported, or gives the list.
 use Rattle.std.specs.Prelude.{◌≡◌, ℕ, ◌*◌, ◌<◌, ◌≤◌, List, length, ℤ}
-use mathlib.Core.Path.{ap, sym, ◌∙◌}
+use mathlib.Core.Path.{sym, ◌∙◌}
 use native.Mathlib.Omega.{arith}
 use mir.Syntax.{w64}
 use mir.Val.{Fits}
@@ -24,7 +24,6 @@ use Rattle.surfaces.proofs.CallChains.{found_none, found_some, flip_stops, flip_
 use Rattle.surfaces.proofs.flip.Lts
 use Rattle.surfaces.proofs.flip.Reads
 use Rattle.surfaces.proofs.flip.Tie
-use mathlib.Core.Bool.{not}
 use Rattle.surfaces.proofs.flip.Goals as goal
 
 abbrev After-held-1 : Type 0

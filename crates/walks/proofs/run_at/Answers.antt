@@ -3,7 +3,6 @@ use Rattle.std.specs.Prelude.{◌≡◌, ℕ, ◌/◌, Bool, true, List, length,
 use mathlib.Core.Path.{refl, sym, ◌∙◌, ap, subst}
 use native.Mathlib.Omega.{arith}
 use native.Mathlib.Nat.{min-le_right}
-use borrow.Author.Rules.{rules}
 use Rattle.algebra.specs.Answer.{refuses}
 use Rattle.reach.specs.Walks.{WalkRecord, rows_most, Reply, Landing, leaves, capacity_of, impossible, run_of, steps_of}
 use Rattle.reach.proofs.StepLaws.{walk_refused, walk-impossible}

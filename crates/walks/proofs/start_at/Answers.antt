@@ -1,10 +1,9 @@
 -- `walks::start_at` meets its contract: the list is refused, there is no row for it, or it is written at the first.
-use Rattle.std.specs.Prelude.{◌≡◌, ℕ, List}
+use Rattle.std.specs.Prelude.{ℕ, List}
 use mathlib.Core.Path.{sym, ◌∙◌, ap}
 use Rattle.algebra.specs.Answer.{gives}
 use Rattle.reach.specs.Walks.{started, leaves}
-use Rattle.triples.specs.Sets.{words_of}
-use Rattle.lists.specs.Calls.{read_tested, test_of}
+use Rattle.lists.specs.Calls.{read_tested}
 use Rattle.reach.proofs.StepLaws.{start-refused, start_full, start_writes}
 use Rattle.walks.proofs.start_at.Goals as goal
 

@@ -1,5 +1,4 @@
 -- `lists::edges::open` meets its contract: no shot so far has an open edge to a smaller one.
-use Rattle.std.specs.Prelude.{false}
 use borrow.Author.Rules.{rules}
 use Rattle.algebra.proofs.LoopLaws.{any_none, found, go_on_lem, none}
 use Rattle.lists.proofs.edges.open.Goals as goal

@@ -1,5 +1,5 @@
 -- `lists::edges::open_with` meets its contract: no edge so far is that of exactly one triple.
-use Rattle.std.specs.Prelude.{◌≡◌, false}
+use Rattle.std.specs.Prelude.{◌≡◌}
 use mathlib.Core.Path.{◌∙◌, ap}
 use borrow.Author.Rules.{rules}
 use Rattle.algebra.specs.Words.{both_of, alone_of}

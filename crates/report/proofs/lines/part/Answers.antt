@@ -21,7 +21,6 @@ use Rattle.report.proofs.ReadLaws.{shots_few, shots_count, shots-front, shots_wi
 use Rattle.report.proofs.lines.part.Lts
 use Rattle.report.proofs.lines.part.Reads
 use Rattle.report.proofs.lines.part.Tie
-use mathlib.Core.Bool.{not}
 use Rattle.report.proofs.lines.part.Goals as goal
 
 abbrev After-read_patch-patch : Type 0

@@ -5,7 +5,6 @@ use lib.ListN.{length-set}
 use mir.Syntax.{w8}
 use Rattle.algebra.proofs.LoopLaws.{fill_none, fill_more, fill_end}
 use Rattle.algebra.proofs.SizeLaws.{read_back}
-use Rattle.shots.specs.Calls.{sign_at}
 use Rattle.shots.proofs.pairs.signs_of.Goals as goal
 
 pub loop-k-init : goal.loop-k-init

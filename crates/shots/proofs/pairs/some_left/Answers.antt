@@ -1,5 +1,4 @@
 -- `shots::pairs::some_left` meets its contract: none so far is left of the pair.
-use mathlib.Core.Bool.{false}
 use borrow.Author.Rules.{rules}
 use borrow.Author.Tests.{eq-eqb, ne_eqb}
 use Rattle.algebra.proofs.LoopLaws.{any_none, found, go_on_lem, none}

@@ -1,5 +1,4 @@
 -- `shots::pairs::some_outside` meets its contract: none so far is outside the two.
-use mathlib.Core.Bool.{false}
 use borrow.Author.Rules.{rules}
 use Rattle.algebra.proofs.LoopLaws.{any_none, found, go_on_lem, none}
 use Rattle.shots.specs.Patch.{some_outside}

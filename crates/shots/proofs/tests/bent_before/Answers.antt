@@ -1,8 +1,7 @@
 -- `shots::tests::bent_before` meets its contract: none so far is bent.
-use mathlib.Core.Bool.{false}
 use borrow.Author.Rules.{rules}
 use Rattle.algebra.proofs.LoopLaws.{any_none, found, go_on_lem, none}
-use Rattle.shots.specs.Tests.{bent_of, bent_before}
+use Rattle.shots.specs.Tests.{bent_before}
 use Rattle.shots.proofs.tests.bent_before.Goals as goal
 
 pub loop-b-init : goal.loop-b-init

@@ -1,8 +1,7 @@
 -- `shots::tests::bent_of` meets its contract: none so far is bent.
-use mathlib.Core.Bool.{false}
 use borrow.Author.Rules.{rules}
 use Rattle.algebra.proofs.LoopLaws.{any_none, found, go_on_lem, none}
-use Rattle.shots.specs.Tests.{bent_at, bent_of}
+use Rattle.shots.specs.Tests.{bent_of}
 use Rattle.shots.proofs.tests.bent_of.Goals as goal
 
 pub loop-a-init : goal.loop-a-init

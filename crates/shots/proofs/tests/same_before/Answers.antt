@@ -1,8 +1,7 @@
 -- `shots::tests::same_before` meets its contract: none so far is the same.
-use mathlib.Core.Bool.{false}
 use borrow.Author.Rules.{rules}
 use Rattle.algebra.proofs.LoopLaws.{any_none, found, go_on_lem, none}
-use Rattle.shots.specs.Tests.{same_at, same_before}
+use Rattle.shots.specs.Tests.{same_before}
 use Rattle.shots.proofs.tests.same_before.Goals as goal
 
 pub loop-i-init : goal.loop-i-init

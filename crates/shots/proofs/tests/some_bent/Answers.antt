@@ -1,8 +1,7 @@
 -- `shots::tests::some_bent` meets its contract: none so far is bent.
-use mathlib.Core.Bool.{false}
 use borrow.Author.Rules.{rules}
 use Rattle.algebra.proofs.LoopLaws.{any_none, found, go_on_lem, none}
-use Rattle.shots.specs.Tests.{bent_before, some_bent}
+use Rattle.shots.specs.Tests.{some_bent}
 use Rattle.shots.proofs.tests.some_bent.Goals as goal
 
 pub loop-c-init : goal.loop-c-init

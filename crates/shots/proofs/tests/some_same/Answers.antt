@@ -1,8 +1,7 @@
 -- `shots::tests::some_same` meets its contract: none so far has the same before it.
-use mathlib.Core.Bool.{false}
 use borrow.Author.Rules.{rules}
 use Rattle.algebra.proofs.LoopLaws.{any_none, found, go_on_lem, none}
-use Rattle.shots.specs.Tests.{same_before, some_same}
+use Rattle.shots.specs.Tests.{some_same}
 use Rattle.shots.proofs.tests.some_same.Goals as goal
 
 pub loop-j-init : goal.loop-j-init

@@ -34,8 +34,11 @@ pub loop-k-preserved : goal.loop-k-preserved
 loop-k-preserved c =
     let k = c.loop-k.k in (
       search rules,
-      elim c.if-linked_at.branch [ then-linked_at w ↦ turn_in c.args.n c.args.x (words_of c.args.star) (words_of c.args.list) k (words_of w.row_at.result) c.linked_at.ensures w.if-linked_at.true c.loop-k.invariant.1
-          (w.row_at.ensures ∙ c.requires.2 k c.loop-k-test.true) (ap words_of w.t-is ∙ w.either-t.ensures) | else-linked_at w ↦ turn-out c.args.n c.args.x (words_of c.args.star) (words_of c.args.list) k c.linked_at.ensures w.if-linked_at.false (ap words_of w.t-is ∙ c.loop-k.invariant.1) ],
+      elim c.if-linked_at.branch [
+        | then-linked_at w ↦ turn_in c.args.n c.args.x (words_of c.args.star) (words_of c.args.list) k (words_of w.row_at.result) c.linked_at.ensures w.if-linked_at.true c.loop-k.invariant.1
+            (w.row_at.ensures ∙ c.requires.2 k c.loop-k-test.true) (ap words_of w.t-is ∙ w.either-t.ensures)
+        | else-linked_at w ↦ turn-out c.args.n c.args.x (words_of c.args.star) (words_of c.args.list) k c.linked_at.ensures w.if-linked_at.false (ap words_of w.t-is ∙ c.loop-k.invariant.1)
+      ],
     )
 
 pub returns : goal.returns

@@ -1,7 +1,6 @@
 -- `surfaces::flips::star` meets its contract: the triples that lack one of the side's shots gone through, and no other shot of the circuit.
 use Rattle.std.specs.Prelude.{◌≡◌, ℕ, ◌+◌, ◌*◌, ◌<◌, Bool, true, false, not, ◌&&◌, List}
 use mathlib.Core.Path.{refl, sym, ◌∙◌, ap}
-use mathlib.Core.Logic.{inl, inr}
 use mathlib.Core.Bool.{and_assoc}
 use borrow.Author.Rules.{rules}
 use Rattle.algebra.specs.Sets.{is_on, bit}
@@ -42,11 +41,14 @@ loop-i-preserved c =
     let n = c.args.n in
     let i = c.loop-i.i in (
       search rules,
-      elim c.if-on.branch [ then-on w ↦ gathered_in word_count (ranked n) (lacks n c.args.a c.args.x) i (words_of w.less.result)
+      elim c.if-on.branch [
+        | then-on w ↦ gathered_in word_count (ranked n) (lacks n c.args.a c.args.x) i (words_of w.less.result)
             (λ r h. ap (λ (u : List ℕ). member u r) w.less.ensures
             ∙ added n c.args.a c.args.x i w.around-rest.result w.row_at.result (sym c.on.ensures ∙ w.if-on.true) c.full-all.ensures w.dropped.ensures w.around-rest.ensures
             (w.row_at.ensures ∙ c.requires.2 i c.loop-i-test.true) r h)
-            c.loop-i.invariant.1 (ap words_of w.t-is ∙ w.either-t.ensures) | else-on w ↦ turn-out n c.args.a c.args.x i (sym c.on.ensures ∙ w.if-on.false) (ap words_of w.t-is ∙ c.loop-i.invariant.1) ],
+            c.loop-i.invariant.1 (ap words_of w.t-is ∙ w.either-t.ensures)
+        | else-on w ↦ turn-out n c.args.a c.args.x i (sym c.on.ensures ∙ w.if-on.false) (ap words_of w.t-is ∙ c.loop-i.invariant.1)
+      ],
     )
 
 pub returns : goal.returns

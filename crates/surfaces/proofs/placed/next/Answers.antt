@@ -1,7 +1,7 @@
 -- `surfaces::placed::next` meets its contract: 0, 1 and the third of the first three shots are passed over.
 use Rattle.std.specs.Prelude.{◌≡◌, ℕ, Bool, true, false, ◌||◌, eqb, ◌⊎◌, List, ℤ}
 use mathlib.Core.Path.{refl, sym, ◌∙◌, ap}
-use mathlib.Core.Logic.{inl, inr, ⊎_elim}
+use mathlib.Core.Logic.{inl, inr}
 use borrow.Author.Tests.{ne_eqb}
 use Rattle.algebra.proofs.AnswerLaws.{reflects_true, reflects-or, reflects_eqb}
 use Rattle.surfaces.specs.Placing.{first_off, place_shot, place_next}
@@ -27,7 +27,7 @@ pub returns-then-m-eq0 : goal.returns-then-m-eq0
 returns-then-m-eq0 c =
     next-kept _ _ _ _ c.requires.0
     (is-early _ _ (elim c.then-m-eq0.branch [
-      then-m-eq0-via-then-m-eq0 w ↦ inl w.if-m-eq0.true
+      | then-m-eq0-via-then-m-eq0 w ↦ inl w.if-m-eq0.true
       | then-m-eq0-via-else-m-eq0+then-m-eq1 w ↦ inr (inl w.if-m-eq1.true)
       | then-m-eq0-via-else-m-eq0+else-m-eq1+then-m-off w ↦ inr (inr w.if-m-off.true)
     ]))

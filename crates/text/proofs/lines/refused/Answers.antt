@@ -7,8 +7,7 @@ use Rattle.text.proofs.lines.refused.Goals as goal
 
 pub returns : goal.returns
 unfolding refused_line
-returns c =
-    (
-      put_field c.args.out.now c.args.at (ascii "refused ") (decimal_of c.args.number) end_line c.field-a.ensures.0 c.bytes.ensures,
-      omega (arith, c.field-a.ensures.1, c.bytes.ensures.0),
-    )
+returns c = (
+  put_field c.args.out.now c.args.at (ascii "refused ") (decimal_of c.args.number) end_line c.field-a.ensures.0 c.bytes.ensures,
+  omega (arith, c.field-a.ensures.1, c.bytes.ensures.0),
+)

@@ -10,12 +10,11 @@ pub loop-i-init : goal.loop-i-init
 loop-i-init c = (search rules, refl, wrote_none c.args.out.now c.args.at c.args.text.now)
 
 pub loop-i-preserved : goal.loop-i-preserved
-loop-i-preserved c =
-    (
-      search rules,
-      length-set c.loop-i.out _ _ ∙ c.loop-i.invariant.1,
-      sym (wrote-turn c.loop-i.out c.args.text.now c.args.at c.loop-i.i 0 (search rules)) ∙ c.loop-i.invariant.2,
-    )
+loop-i-preserved c = (
+  search rules,
+  length-set c.loop-i.out _ _ ∙ c.loop-i.invariant.1,
+  sym (wrote-turn c.loop-i.out c.args.text.now c.args.at c.loop-i.i 0 (search rules)) ∙ c.loop-i.invariant.2,
+)
 
 pub returns : goal.returns
 returns c =

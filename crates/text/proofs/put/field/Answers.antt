@@ -5,8 +5,7 @@ use Rattle.text.proofs.PutLaws.{put-put}
 use Rattle.text.proofs.put.field.Goals as goal
 
 pub returns : goal.returns
-returns c =
-    (
-      put-put c.args.out.now c.args.at c.args.text.now (decimal_of c.args.n) c.bytes-next.ensures c.decimal.ensures.0,
-      omega (arith, c.decimal.ensures.1, c.bytes-next.ensures.0),
-    )
+returns c = (
+  put-put c.args.out.now c.args.at c.args.text.now (decimal_of c.args.n) c.bytes-next.ensures c.decimal.ensures.0,
+  omega (arith, c.decimal.ensures.1, c.bytes-next.ensures.0),
+)

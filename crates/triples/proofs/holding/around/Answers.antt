@@ -49,8 +49,11 @@ loop-k-preserved c =
     let s = l.before.before in
     let k = l.loop-k.k in (
       search rules,
-      elim c.if-on.branch [ then-on w ↦ turn_in s.args.n s.args.x (words_of s.args.list) k (sym o.on.ensures ∙ w.if-on.true) l.loop-k.invariant.1
-          (w.row_at.ensures ∙ s.requires.2 k o.loop-k-test.true) (ap words_of w.t-is ∙ w.both-t.ensures) | else-on w ↦ turn-out s.args.n s.args.x (words_of s.args.list) k (sym o.on.ensures ∙ w.if-on.false) (ap words_of w.t-is ∙ l.loop-k.invariant.1) ],
+      elim c.if-on.branch [
+        | then-on w ↦ turn_in s.args.n s.args.x (words_of s.args.list) k (sym o.on.ensures ∙ w.if-on.true) l.loop-k.invariant.1
+            (w.row_at.ensures ∙ s.requires.2 k o.loop-k-test.true) (ap words_of w.t-is ∙ w.both-t.ensures)
+        | else-on w ↦ turn-out s.args.n s.args.x (words_of s.args.list) k (sym o.on.ensures ∙ w.if-on.false) (ap words_of w.t-is ∙ l.loop-k.invariant.1)
+      ],
     )
 
 pub returns : goal.returns

@@ -1,6 +1,5 @@
 -- `triples::rows::is_row` meets its contract: word by word, all the same so far.
 use mathlib.Core.Path.{◌≡◌, sym, ◌∙◌, refl}
-use mathlib.Core.Bool.{true}
 use Prim.Native.Nat.{◌<◌}
 use native.Mathlib.Omega.{arith}
 use lib.Dec.{eqb}

@@ -1,6 +1,5 @@
 -- `triples::sets::inside` meets its contract: word by word, all inside so far.
 use mathlib.Core.Path.{◌≡◌, ◌∙◌}
-use mathlib.Core.Bool.{true}
 use native.Mathlib.Omega.{arith}
 use lib.Dec.{eqb}
 use lib.Bits.{bit_and}

@@ -18,7 +18,6 @@ use Rattle.walks.proofs.StepsLaws.{landed, indexed-counted, going_fits, going_sm
 use Rattle.walks.proofs.steps.one.Lts
 use Rattle.walks.proofs.steps.one.Reads
 use Rattle.walks.proofs.steps.one.Tie
-use mathlib.Core.Bool.{not}
 use Rattle.walks.proofs.steps.one.Goals as goal
 
 abbrev Start : Type 0

@@ -235,11 +235,10 @@ pub loop-k-smaller : goal.loop-k-smaller
 loop-k-smaller c = let h = more c.before.before in let f = (turns (least c.before.before)).0 in omega arith
 
 pub loop-k-preserved : goal.loop-k-preserved
-loop-k-preserved c =
-    (
-      far_on (then (least c.before.before)).loop-k.invariant.0 (turn (least c.before.before)) (more c.before.before) (x c.before.before) (called c.before.before).along-out.ensures.0 (is_made_lem (x c.before.before).answer (answered c.before.before (not-false _ (ap not c.if-not-made.false)))) (kept c.before.before),
-      still c.before.before,
-    )
+loop-k-preserved c = (
+  far_on (then (least c.before.before)).loop-k.invariant.0 (turn (least c.before.before)) (more c.before.before) (x c.before.before) (called c.before.before).along-out.ensures.0 (is_made_lem (x c.before.before).answer (answered c.before.before (not-false _ (ap not c.if-not-made.false)))) (kept c.before.before),
+  still c.before.before,
+)
 
 pub overflow_add-result : goal.overflow_add-result
 overflow_add-result c = let f = step_small c.before.before.before in let h = c.loop-k-test.false in record { fits = omega arith }
