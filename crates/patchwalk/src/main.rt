@@ -3,10 +3,12 @@
 // was written is then a front of the report, and not all of it.
 #![tactic(auto)]
 
+ghost use Rattle.std.specs.Io.{ReadsAtMost};
 ghost use Rattle.std.specs.Prelude.{◌-◌, ◌≤◌, ◌<◌};
 ghost use Rattle.report.specs.Sizes.{part_lines};
 
-use libc::{STDIN_FILENO, STDOUT_FILENO};
+use std::io;
+use std::io::{ErrorKind, Read};
 
 // One byte more than the longest record, so that what is longer is seen to be.
 const INPUT_MOST: usize = 65538;
@@ -22,9 +24,37 @@ fn behind(from: usize, lines: usize) -> usize
     from + report::PART_LINES
 }
 
-fn main() {
+// One read, made again where a signal cut it off.
+fn read_some<R: Read>(from: &mut R, room: &mut [u8]) -> io::Result<usize>
+    ensures { ReadsAtMost result room.new }
+{
+    for _ in 0..u64::MAX {
+        match from.read(room) {
+            Err(e) if e.kind() == ErrorKind::Interrupted => {}
+            answer => return answer,
+        }
+    }
+    from.read(room)
+}
+
+// The bytes read, as far as there is room; how many there are.
+fn load<R: Read>(from: &mut R, room: &mut [u8; INPUT_MOST]) -> io::Result<usize>
+    ensures { ReadsAtMost result room.new }
+{
+    let mut done = 0;
+    while done < room.len() {
+        let n = read_some(from, &mut room[done..])?;
+        if n == 0 {
+            break;
+        }
+        done += n;
+    }
+    Ok(done)
+}
+
+fn main(rt: HostRuntime) -> io::Result<()> {
     let mut input = [0u8; INPUT_MOST];
-    let n = io::read_full(STDIN_FILENO, &mut input);
+    let n = load(&mut rt.stdin(), &mut input)?;
     let mut table = [0u64; report::TABLE_WORDS];
     let found = report::walked::find(&input[..n], &mut table);
     let lines = report::lines::count(found);
@@ -33,9 +63,8 @@ fn main() {
     while from < lines {
         let to = behind(from, lines);
         let k = report::lines::part(&input[..n], &table, found, from, to, &mut text);
-        if !io::write_all(STDOUT_FILENO, &text[..k]) {
-            return;
-        }
+        rt.write_all(&text[..k])?;
         from = to;
     }
+    Ok(())
 }

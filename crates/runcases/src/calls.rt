@@ -6,106 +6,108 @@ use super::{SHOTS_ROOM, VALUES_ROOM, parse, show};
 use intake::Shot;
 use outline::{Facing, Lengths, Outlined};
 use shots::SHOTS_MOST;
+use std::io;
+use std::io::Write;
 use surfaces::Surface;
 use triples::Triples;
 use walks::Walk;
 
-fn accepted(answer: shots::Accepted) {
+fn accepted<W: Write>(out: &mut W, answer: shots::Accepted) -> io::Result<()> {
     match answer {
-        shots::Accepted::Accepted => show::text(b" accepted"),
-        shots::Accepted::Refused(n) => show::refused(n),
+        shots::Accepted::Accepted => show::text(out, b" accepted"),
+        shots::Accepted::Refused(n) => show::refused(out, n),
     }
 }
 
-fn counted(answer: shots::Counted) {
+fn counted<W: Write>(out: &mut W, answer: shots::Counted) -> io::Result<()> {
     match answer {
-        shots::Counted::Count(k) => show::field(b" count ", k as u64),
-        shots::Counted::Refused(n) => show::refused(n),
+        shots::Counted::Count(k) => show::field(out, b" count ", k as u64),
+        shots::Counted::Refused(n) => show::refused(out, n),
     }
 }
 
-fn oriented(answer: shots::Oriented) {
+fn oriented<W: Write>(out: &mut W, answer: shots::Oriented) -> io::Result<()> {
     match answer {
-        shots::Oriented::Area(x) => show::signed_field(b" area ", x),
-        shots::Oriented::Refused(n) => show::refused(n),
+        shots::Oriented::Area(x) => show::signed_field(out, b" area ", x),
+        shots::Oriented::Refused(n) => show::refused(out, n),
     }
 }
 
-fn measured(answer: shots::Measured) {
+fn measured<W: Write>(out: &mut W, answer: shots::Measured) -> io::Result<()> {
     match answer {
-        shots::Measured::Area(x) => show::field(b" area ", x),
-        shots::Measured::Refused(n) => show::refused(n),
+        shots::Measured::Area(x) => show::field(out, b" area ", x),
+        shots::Measured::Refused(n) => show::refused(out, n),
     }
 }
 
-fn split(answer: circuits::Split) {
+fn split<W: Write>(out: &mut W, answer: circuits::Split) -> io::Result<()> {
     match answer {
         circuits::Split::Circuit(z) => {
-            show::text(b" sides");
-            show::side(z.plus);
-            show::side(z.minus);
+            show::text(out, b" sides")?;
+            show::side(out, z.plus)?;
+            show::side(out, z.minus)
         }
-        circuits::Split::Refused(n) => show::refused(n),
+        circuits::Split::Refused(n) => show::refused(out, n),
     }
 }
 
-fn tested(answer: lists::Tested) {
+fn tested<W: Write>(out: &mut W, answer: lists::Tested) -> io::Result<()> {
     match answer {
-        lists::Tested::Accepted => show::text(b" accepted"),
-        lists::Tested::Refused(n) => show::refused(n),
+        lists::Tested::Accepted => show::text(out, b" accepted"),
+        lists::Tested::Refused(n) => show::refused(out, n),
     }
 }
 
-fn surface(answer: Surface) {
+fn surface<W: Write>(out: &mut W, answer: Surface) -> io::Result<()> {
     match answer {
-        Surface::List(list) => show::list(list),
-        Surface::Refused(n) => show::refused(n),
+        Surface::List(list) => show::list(out, list),
+        Surface::Refused(n) => show::refused(out, n),
     }
 }
 
-fn started(answer: walks::Started) {
+fn started<W: Write>(out: &mut W, answer: walks::Started) -> io::Result<()> {
     match answer {
-        walks::Started::Started => show::text(b" started"),
-        walks::Started::Refused(n) => show::refused(n),
+        walks::Started::Started => show::text(out, b" started"),
+        walks::Started::Refused(n) => show::refused(out, n),
     }
 }
 
-fn stepped(answer: walks::Stepped) {
+fn stepped<W: Write>(out: &mut W, answer: walks::Stepped) -> io::Result<()> {
     match answer {
-        walks::Stepped::Made => show::text(b" made"),
-        walks::Stepped::Done => show::text(b" done"),
-        walks::Stepped::Refused(n) => show::refused(n),
+        walks::Stepped::Made => show::text(out, b" made"),
+        walks::Stepped::Done => show::text(out, b" done"),
+        walks::Stepped::Refused(n) => show::refused(out, n),
     }
 }
 
-fn patched(answer: shots::Patched) {
+fn patched<W: Write>(out: &mut W, answer: shots::Patched) -> io::Result<()> {
     match answer {
-        shots::Patched::Shots(n) => show::field(b" shots ", n as u64),
-        shots::Patched::Refused(n) => show::refused(n),
+        shots::Patched::Shots(n) => show::field(out, b" shots ", n as u64),
+        shots::Patched::Refused(n) => show::refused(out, n),
     }
 }
 
-fn handed(patch: shots::Handed) {
+fn handed<W: Write>(out: &mut W, patch: shots::Handed) -> io::Result<()> {
     let answer = patch.answer;
     let coordinates = patch.coordinates;
-    patched(answer);
-    show::coordinates(&coordinates);
+    patched(out, answer)?;
+    show::coordinates(out, &coordinates)
 }
 
-fn written(answer: records::Written) {
+fn written<W: Write>(out: &mut W, answer: records::Written) -> io::Result<()> {
     match answer {
-        records::Written::Bytes(k) => show::field(b" bytes ", k as u64),
-        records::Written::Refused(n) => show::refused(n),
+        records::Written::Bytes(k) => show::field(out, b" bytes ", k as u64),
+        records::Written::Refused(n) => show::refused(out, n),
     }
 }
 
-fn outlined(answer: Outlined) {
+fn outlined<W: Write>(out: &mut W, answer: Outlined) -> io::Result<()> {
     match answer {
         Outlined::Chains(lengths) => {
-            show::field(b" lengths ", lengths.south as u64);
-            show::field(b" ", lengths.north as u64);
+            show::field(out, b" lengths ", lengths.south as u64)?;
+            show::field(out, b" ", lengths.north as u64)
         }
-        Outlined::Refused(n) => show::refused(n),
+        Outlined::Refused(n) => show::refused(out, n),
     }
 }
 
@@ -119,89 +121,120 @@ fn list_of(low: u64, high: u64) -> Triples {
 
 // ---- the calls on shots alone
 
-fn show_cocircuit(shots: &[i32], i: usize, j: usize) {
-    let out = shots::cocircuit(shots, i, j);
-    let answer = out.answer;
-    let signs = out.signs;
-    accepted(answer);
-    show::signs(&signs);
+fn show_cocircuit<W: Write>(out: &mut W, shots: &[i32], i: usize, j: usize) -> io::Result<()> {
+    let came = shots::cocircuit(shots, i, j);
+    let answer = came.answer;
+    let signs = came.signs;
+    accepted(out, answer)?;
+    show::signs(out, &signs)
 }
 
 // Whether the line's word is one of these; then its answer is printed.
-fn of_shots(line: &[u8], shots: &[i32], a: usize, b: usize, c: usize) -> bool {
+fn of_shots<W: Write>(
+    out: &mut W,
+    line: &[u8],
+    shots: &[i32],
+    a: usize,
+    b: usize,
+    c: usize,
+) -> io::Result<bool> {
     if parse::is(line, b"accept") {
-        accepted(shots::accept(shots));
-        return true;
+        accepted(out, shots::accept(shots))?;
+        return Ok(true);
     }
     if parse::is(line, b"orientation") {
-        oriented(shots::orientation(shots, a, b, c));
-        return true;
+        oriented(out, shots::orientation(shots, a, b, c))?;
+        return Ok(true);
     }
     if parse::is(line, b"double_area") {
-        measured(shots::double_area(shots, a, b, c));
-        return true;
+        measured(out, shots::double_area(shots, a, b, c))?;
+        return Ok(true);
     }
     if parse::is(line, b"cocircuit") {
-        show_cocircuit(shots, a, b);
-        return true;
+        show_cocircuit(out, shots, a, b)?;
+        return Ok(true);
     }
     if parse::is(line, b"border") {
-        counted(shots::border(shots));
-        return true;
+        counted(out, shots::border(shots))?;
+        return Ok(true);
     }
-    false
+    Ok(false)
 }
 
 // ---- circuits, lists and surfaces
 
-fn of_lists(line: &[u8], shots: &[i32], a: usize, list: Triples, z: usize) -> bool {
+fn of_lists<W: Write>(
+    out: &mut W,
+    line: &[u8],
+    shots: &[i32],
+    a: usize,
+    list: Triples,
+    z: usize,
+) -> io::Result<bool> {
     if parse::is(line, b"circuits") {
-        counted(circuits::count(shots));
-        return true;
+        counted(out, circuits::count(shots))?;
+        return Ok(true);
     }
     if parse::is(line, b"circuit") {
-        split(circuits::circuit(shots, a));
-        return true;
+        split(out, circuits::circuit(shots, a))?;
+        return Ok(true);
     }
     if parse::is(line, b"test") {
-        tested(lists::test(shots, list));
-        return true;
+        tested(out, lists::test(shots, list))?;
+        return Ok(true);
     }
     if parse::is(line, b"placing") {
-        surface(surfaces::placing(shots));
-        return true;
+        surface(out, surfaces::placing(shots))?;
+        return Ok(true);
     }
     if parse::is(line, b"flip") {
-        surface(surfaces::flip(shots, list, z));
-        return true;
+        surface(out, surfaces::flip(shots, list, z))?;
+        return Ok(true);
     }
-    false
+    Ok(false)
 }
 
 // ---- the walk
 
-fn show_start(shots: &[i32], list: Triples, table: &mut [u64], walk: Walk) {
-    let out = walks::start_at(shots, list, table, walk);
-    let answer = out.answer;
-    let after = out.walk;
-    started(answer);
-    show::walk(after, table);
+fn show_start<W: Write>(
+    out: &mut W,
+    shots: &[i32],
+    list: Triples,
+    table: &mut [u64],
+    walk: Walk,
+) -> io::Result<()> {
+    let came = walks::start_at(shots, list, table, walk);
+    let answer = came.answer;
+    let after = came.walk;
+    started(out, answer)?;
+    show::walk(out, after, table)
 }
 
-fn show_step(shots: &[i32], table: &mut [u64], walk: Walk) {
-    let out = walks::step_at(shots, table, walk);
-    let answer = out.answer;
-    let after = out.walk;
-    stepped(answer);
-    show::walk(after, table);
+fn show_step<W: Write>(
+    out: &mut W,
+    shots: &[i32],
+    table: &mut [u64],
+    walk: Walk,
+) -> io::Result<()> {
+    let came = walks::step_at(shots, table, walk);
+    let answer = came.answer;
+    let after = came.walk;
+    stepped(out, answer)?;
+    show::walk(out, after, table)
 }
 
-fn show_run(shots: &[i32], table: &mut [u64], walk: Walk, b: usize) {
-    let out = walks::run_at(shots, table, walk, b);
-    let answer = out.answer;
-    let after = out.walk;
-    stepped(answer);
-    show::walk(after, table);
+fn show_run<W: Write>(
+    out: &mut W,
+    shots: &[i32],
+    table: &mut [u64],
+    walk: Walk,
+    b: usize,
+) -> io::Result<()> {
+    let came = walks::run_at(shots, table, walk, b);
+    let answer = came.answer;
+    let after = came.walk;
+    stepped(out, answer)?;
+    show::walk(out, after, table)
 }
 
 fn walk_of(rows: u64, step: u64) -> Walk {
@@ -211,97 +244,123 @@ fn walk_of(rows: u64, step: u64) -> Walk {
     }
 }
 
-fn of_walks(line: &[u8], shots: &[i32], table: &mut [u64], numbers: &[u64; NUMBERS_MOST]) -> bool {
+fn of_walks<W: Write>(
+    out: &mut W,
+    line: &[u8],
+    shots: &[i32],
+    table: &mut [u64],
+    numbers: &[u64; NUMBERS_MOST],
+) -> io::Result<bool> {
     if parse::is(line, b"start") {
         show_start(
+            out,
             shots,
             list_of(numbers[0], numbers[1]),
             table,
             walk_of(numbers[2], numbers[3]),
-        );
-        return true;
+        )?;
+        return Ok(true);
     }
     if parse::is(line, b"step") {
-        show_step(shots, table, walk_of(numbers[0], numbers[1]));
-        return true;
+        show_step(out, shots, table, walk_of(numbers[0], numbers[1]))?;
+        return Ok(true);
     }
     if parse::is(line, b"run") {
         show_run(
+            out,
             shots,
             table,
             walk_of(numbers[0], numbers[1]),
             numbers[2] as usize,
-        );
-        return true;
+        )?;
+        return Ok(true);
     }
-    false
+    Ok(false)
 }
 
 // ---- records
 
-fn show_read_surface(shots: &[i32], bytes: &[u8]) {
+fn show_read_surface<W: Write>(out: &mut W, shots: &[i32], bytes: &[u8]) -> io::Result<()> {
     let read = records::read_surface(shots, bytes);
     let Surface::List(list) = read else {
-        return surface(read);
+        return surface(out, read);
     };
-    show::list(list);
+    show::list(out, list)
 }
 
-fn of_records(line: &[u8], shots: &[i32], bytes: &mut [u8], list: Triples) -> bool {
+fn of_records<W: Write>(
+    out: &mut W,
+    line: &[u8],
+    shots: &[i32],
+    bytes: &mut [u8],
+    list: Triples,
+) -> io::Result<bool> {
     if parse::is(line, b"read_patch") {
-        handed(records::read_patch(bytes));
-        return true;
+        handed(out, records::read_patch(bytes))?;
+        return Ok(true);
     }
     if parse::is(line, b"write_patch") {
-        written(records::write_patch(shots, bytes));
-        show::bytes(bytes);
-        return true;
+        written(out, records::write_patch(shots, bytes))?;
+        show::bytes(out, bytes)?;
+        return Ok(true);
     }
     if parse::is(line, b"read_surface") {
-        show_read_surface(shots, bytes);
-        return true;
+        show_read_surface(out, shots, bytes)?;
+        return Ok(true);
     }
     if parse::is(line, b"write_surface") {
-        written(records::write_surface(shots, list, bytes));
-        show::bytes(bytes);
-        return true;
+        written(out, records::write_surface(shots, list, bytes))?;
+        show::bytes(out, bytes)?;
+        return Ok(true);
     }
-    false
+    Ok(false)
 }
 
 // ---- the outline
 
-fn show_chains(shots: &[i32], south: &mut [u8], north: &mut [u8]) {
-    outlined(outline::chains(shots, south, north));
-    show::bytes(south);
-    show::bytes(north);
+fn show_chains<W: Write>(
+    out: &mut W,
+    shots: &[i32],
+    south: &mut [u8],
+    north: &mut [u8],
+) -> io::Result<()> {
+    outlined(out, outline::chains(shots, south, north))?;
+    show::bytes(out, south)?;
+    show::bytes(out, north)
 }
 
-fn show_part<'a>(facing: Facing, south: &'a [u8], north: &'a [u8], lengths: Lengths) {
-    show::text(b" bytes");
-    show::bytes(outline::part(facing, south, north, lengths));
+fn show_part<'a, W: Write>(
+    out: &mut W,
+    facing: Facing,
+    south: &'a [u8],
+    north: &'a [u8],
+    lengths: Lengths,
+) -> io::Result<()> {
+    show::text(out, b" bytes")?;
+    show::bytes(out, outline::part(facing, south, north, lengths))
 }
 
-fn of_outline(
+fn of_outline<W: Write>(
+    out: &mut W,
     line: &[u8],
     shots: &[i32],
     south: &mut [u8],
     north: &mut [u8],
     lengths: Lengths,
-) -> bool {
+) -> io::Result<bool> {
     if parse::is(line, b"chains") {
-        show_chains(shots, south, north);
-        return true;
+        show_chains(out, shots, south, north)?;
+        return Ok(true);
     }
     if parse::is(line, b"south_part") {
-        show_part(Facing::South, south, north, lengths);
-        return true;
+        show_part(out, Facing::South, south, north, lengths)?;
+        return Ok(true);
     }
     if parse::is(line, b"north_part") {
-        show_part(Facing::North, south, north, lengths);
-        return true;
+        show_part(out, Facing::North, south, north, lengths)?;
+        return Ok(true);
     }
-    false
+    Ok(false)
 }
 
 // ---- the intake
@@ -337,60 +396,82 @@ fn ten_shots(units: &[u8], values: &[f64; VALUES_ROOM]) -> [Shot; SHOTS_MOST] {
 }
 
 // The patterns of the values stand where a table does, in the line's second run.
-fn of_intake(line: &[u8], edition: usize, units: &[u8], patterns: &[u64], count: usize) -> bool {
+fn of_intake<W: Write>(
+    out: &mut W,
+    line: &[u8],
+    edition: usize,
+    units: &[u8],
+    patterns: &[u64],
+    count: usize,
+) -> io::Result<bool> {
     let mut values = [0.0; VALUES_ROOM];
     let n = parse::doubles(patterns, &mut values);
     if parse::is(line, b"take") {
-        handed(intake::take(edition, ten_shots(units, &values), count));
-        return true;
+        handed(out, intake::take(edition, ten_shots(units, &values), count))?;
+        return Ok(true);
     }
     if parse::is(line, b"take_runs") {
-        handed(intake::take_runs(edition, units, &values[..n]));
-        return true;
+        handed(out, intake::take_runs(edition, units, &values[..n]))?;
+        return Ok(true);
     }
-    false
+    Ok(false)
 }
 
 // ---- a line
 
 // Whether the line's word is a call's; then it is made, and its answer is printed.
-fn called(
+fn called<W: Write>(
+    out: &mut W,
     line: &[u8],
     shots: &[i32],
     table: &mut [u64],
     bytes: &mut [u8],
     more: &mut [u8],
-) -> bool {
+) -> io::Result<bool> {
     let numbers = parse::numbers(line);
     let a = numbers[0] as usize;
     let b = numbers[1] as usize;
     let c = numbers[2] as usize;
     let list = list_of(numbers[0], numbers[1]);
-    if of_shots(line, shots, a, b, c) {
-        return true;
+    if of_shots(out, line, shots, a, b, c)? {
+        return Ok(true);
     }
-    if of_lists(line, shots, a, list, c) {
-        return true;
+    if of_lists(out, line, shots, a, list, c)? {
+        return Ok(true);
     }
-    if of_walks(line, shots, table, &numbers) {
-        return true;
+    if of_walks(out, line, shots, table, &numbers)? {
+        return Ok(true);
     }
-    if of_records(line, shots, bytes, list) {
-        return true;
+    if of_records(out, line, shots, bytes, list)? {
+        return Ok(true);
     }
-    if of_outline(line, shots, bytes, more, Lengths { south: a, north: b }) {
-        return true;
+    if of_outline(
+        out,
+        line,
+        shots,
+        bytes,
+        more,
+        Lengths { south: a, north: b },
+    )? {
+        return Ok(true);
     }
-    of_intake(line, a, bytes, table, b)
+    of_intake(out, line, a, bytes, table, b)
 }
 
 // The word, the answer, and what was left; an unknown word is said to be so.
-fn answer(line: &[u8], shots: &[i32], table: &mut [u64], bytes: &mut [u8], more: &mut [u8]) {
-    show::text(parse::word(line));
-    if !called(line, shots, table, bytes, more) {
-        show::text(b" unknown");
+fn answer<W: Write>(
+    out: &mut W,
+    line: &[u8],
+    shots: &[i32],
+    table: &mut [u64],
+    bytes: &mut [u8],
+    more: &mut [u8],
+) -> io::Result<()> {
+    show::text(out, parse::word(line))?;
+    if !called(out, line, shots, table, bytes, more)? {
+        show::text(out, b" unknown")?;
     }
-    show::text(b"\n");
+    show::text(out, b"\n")
 }
 
 // The shots of a case: the line's first run; cells hold it on the way.
@@ -426,9 +507,15 @@ fn bytes_run(line: &[u8]) -> usize
 }
 
 // A case's line; a remark and an empty line are none. The cells hold each run in turn, the table last.
-pub fn case(line: &[u8], cells: &mut [u64], bytes: &mut [u8], more: &mut [u8]) {
+pub fn case<W: Write>(
+    out: &mut W,
+    line: &[u8],
+    cells: &mut [u64],
+    bytes: &mut [u8],
+    more: &mut [u8],
+) -> io::Result<()> {
     if line.len() == 0 || parse::byte(line, 0) == b'#' {
-        return;
+        return Ok(());
     }
     let mut shots = [0i32; SHOTS_ROOM];
     let n = shots_of(line, cells, &mut shots);
@@ -437,10 +524,11 @@ pub fn case(line: &[u8], cells: &mut [u64], bytes: &mut [u8], more: &mut [u8]) {
     let rest = bytes_of(line, run + 1, cells, more);
     let m = parse::gather(line, 2, cells);
     answer(
+        out,
         line,
         &shots[..n],
         &mut cells[..m],
         &mut bytes[..size],
         &mut more[..rest],
-    );
+    )
 }

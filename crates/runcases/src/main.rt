@@ -1,9 +1,10 @@
 // runcases: reads a stream of cases on standard input and prints for each what the call answered and what it left in all that it was lent. docs/CASES.md has the form of both.
 #![tactic(auto)]
 
-ghost use Rattle.io.specs.Counts.{IsPrefixLen};
+ghost use Rattle.std.specs.Io.{ReadsAtMost};
 
-use libc::STDIN_FILENO;
+use std::io;
+use std::io::{BufWriter, ErrorKind, Read, Write};
 
 mod calls;
 mod parse;
@@ -22,35 +23,62 @@ const BYTES_ROOM: usize = 65600;
 
 const TABLE_ROOM: usize = 131080;
 
-fn load(stream: &mut [u8; STREAM_ROOM]) -> usize
-    ensures { IsPrefixLen result stream.new }
+// One read, made again where a signal cut it off.
+fn read_some<R: Read>(input: &mut R, room: &mut [u8]) -> io::Result<usize>
+    ensures { ReadsAtMost result room.new }
 {
-    io::read_full(STDIN_FILENO, stream)
+    for _ in 0..u64::MAX {
+        match input.read(room) {
+            Err(e) if e.kind() == ErrorKind::Interrupted => {}
+            answer => return answer,
+        }
+    }
+    input.read(room)
+}
+
+// The stream, as far as there is room; how many bytes it has there.
+fn load<R: Read>(input: &mut R, stream: &mut [u8; STREAM_ROOM]) -> io::Result<usize>
+    ensures { ReadsAtMost result stream.new }
+{
+    let mut done = 0;
+    while done < stream.len() {
+        let n = read_some(input, &mut stream[done..])?;
+        if n == 0 {
+            break;
+        }
+        done += n;
+    }
+    Ok(done)
 }
 
 // The cases, line by line.
-fn all(
+fn all<W: Write>(
+    out: &mut W,
     stream: &[u8],
     cells: &mut [u64; TABLE_ROOM],
     bytes: &mut [u8; BYTES_ROOM],
     more: &mut [u8; BYTES_ROOM],
-) {
+) -> io::Result<()> {
     let mut at = 0;
     while at < stream.len() {
         let end = parse::line_end(stream, at);
-        calls::case(&stream[at..end], cells, bytes, more);
+        calls::case(out, &stream[at..end], cells, bytes, more)?;
         at = end + 1;
     }
+    Ok(())
 }
 
-fn main() {
+fn main(rt: HostRuntime) -> io::Result<()> {
     let mut stream = [0u8; STREAM_ROOM];
-    let n = load(&mut stream);
+    let n = load(&mut rt.stdin(), &mut stream)?;
+    let mut out = BufWriter::new(rt.alloc(), rt.stdout())?;
     if STREAM_MOST < n {
-        return show::text(b"stream too long\n");
+        show::text(&mut out, b"stream too long\n")?;
+        return out.flush();
     }
     let mut cells = [0u64; TABLE_ROOM];
     let mut bytes = [0u8; BYTES_ROOM];
     let mut more = [0u8; BYTES_ROOM];
-    all(&stream[..n], &mut cells, &mut bytes, &mut more);
+    all(&mut out, &stream[..n], &mut cells, &mut bytes, &mut more)?;
+    out.flush()
 }
