@@ -1,4 +1,4 @@
--- What a run has worked out before its first step; src/core.rt has the first row of each part as a constant.
+-- What a run has worked out before its first step; src/kernel.rt has the first row of each part as a constant.
 --
 --   plus_star_row z, minus_star_row z    the rows of the stars of the sides of circuit z
 --   ready_rows            the number of rows

@@ -1,3 +1,4 @@
 pub mod Sizes
 pub mod Ranks
+pub mod Pieces
 pub mod Sets

@@ -2,9 +2,17 @@
 #![tactic(auto)]
 
 pub mod holding;
+pub mod masks;
+pub mod pieces;
 pub mod ranks;
 pub mod rows;
 pub mod sets;
+pub mod words;
+
+// A piece of the plane has so many shots, and the largest patch so many pieces.
+pub const PIECE: usize = 3;
+
+pub const PIECES_MOST: usize = 120;
 
 // A set has this many words, of so many bits.
 pub const WORDS: usize = 2;

@@ -1,8 +1,12 @@
 // Ranks of triples i < j < k among n shots: lexicographic, from 0, by formula.
 ghost use Rattle.std.specs.Prelude.{◌≡◌, [], ◌∷◌, ◌+◌, ◌-◌, ◌≤◌, ◌<◌};
+ghost use Rattle.algebra.specs.Sets.{set_of};
 ghost use Rattle.algebra.specs.Places.{choose, set_by, next_of};
 ghost use Rattle.shots.specs.Sizes.{shots_most};
-ghost use Rattle.triples.specs.Ranks.{triple_count, triple_at, rank_of};
+ghost use Rattle.triples.specs.Ranks.{triple_count, triple_at, rank_of, piece_count, rank_in};
+ghost use Rattle.triples.specs.Pieces.{piece_of, Piece};
+
+use super::masks;
 
 #[derive(Clone, Copy)]
 pub struct Triple {
@@ -105,4 +109,48 @@ pub fn rank(n: usize, i: usize, j: usize, k: usize) -> usize
 {
     let after = choose(n - 1 - i, 3) + choose(n - 1 - j, 2) + (n - 1 - k);
     count(n) - 1 - after
+}
+
+// How many pieces of so many shots n shots have.
+pub fn count_of(size: usize, n: usize) -> usize
+    requires { n ≤ shots_most }
+    ensures { result ≡ piece_count size n }
+{
+    choose(n, size)
+}
+
+// The piece of rank r, as a mask: its shots in order, each the first that some piece behind the ones passed over begins with.
+pub fn piece_at(size: usize, n: usize, r: usize) -> u16
+    requires { (n ≤ shots_most) × (r < piece_count size n) }
+    ensures { result ≡ piece_of size n r }
+{
+    let mut x = 0;
+    let mut a = 0;
+    let mut rest = r;
+    let mut left = size;
+    while 0 < left {
+        left -= 1;
+        let first = head(left, a, n, rest);
+        x = masks::with(x, first.number);
+        a = first.number + 1;
+        rest = first.rest;
+    }
+    x
+}
+
+// The rank of a piece: all pieces but those after it and itself. Those after it that begin with the same shots, and then with a later one, are the sets of the shots behind.
+pub fn rank_of(size: usize, n: usize, x: u16) -> usize
+    requires { (n ≤ shots_most) × Piece size n x }
+    ensures { result ≡ rank_in size n (set_of n x) }
+{
+    let mut after = 0;
+    let mut left = size;
+    let mut y = x;
+    while 0 < left {
+        let i = masks::lowest(y);
+        after += choose(n - 1 - i, left);
+        y = masks::without(y, i);
+        left -= 1;
+    }
+    choose(n, size) - 1 - after
 }

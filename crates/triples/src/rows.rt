@@ -45,3 +45,44 @@ pub fn is_row(table: &[u64], p: usize, list: Triples) -> bool
     }
     true
 }
+
+// Row p of a table of rows as long as the lent one.
+pub fn read(table: &[u64], p: usize, row: &mut [u64])
+    requires { length row.old * p + length row.old ≤ length table.now }
+    ensures { row.new ≡ row_of (length row.old) table.now p }
+{
+    let k = row.len();
+    let mut i = 0;
+    while i < k {
+        row[i] = table[k * p + i];
+        i += 1;
+    }
+}
+
+pub fn write(table: &mut [u64], p: usize, row: &[u64])
+    requires { length row.now * p + length row.now ≤ length table.old }
+    ensures { table.new ≡ set_row table.old p row.now }
+{
+    let k = row.len();
+    let mut i = 0;
+    while i < k {
+        table[k * p + i] = row[i];
+        i += 1;
+    }
+}
+
+// Whether row p is the lent one.
+pub fn same(table: &[u64], p: usize, row: &[u64]) -> bool
+    requires { length row.now * p + length row.now ≤ length table.now }
+    ensures { result ≡ same_list (row_of (length row.now) table.now p) row.now }
+{
+    let k = row.len();
+    let mut i = 0;
+    while i < k {
+        if table[k * p + i] != row[i] {
+            return false;
+        }
+        i += 1;
+    }
+    true
+}

@@ -1,4 +1,4 @@
--- `circuits::core::all` meets its contract: the threes, then the fours behind them.
+-- `circuits::kernel::all` meets its contract: the threes, then the fours behind them.
 use mathlib.Core.Path.{refl, sym, ◌∙◌, ap, subst}
 use Rattle.std.specs.Prelude.{◌+◌, length}
 use native.Mathlib.Omega.{arith}

@@ -1,4 +1,4 @@
--- `circuits::core::four` meets its contract.
+-- `circuits::kernel::four` meets its contract.
 use Rattle.std.specs.Prelude.{◌≡◌, not}
 use mathlib.Core.Path.{sym, ◌∙◌, ap}
 use mir.Syntax.{w8}

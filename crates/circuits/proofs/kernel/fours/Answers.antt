@@ -1,4 +1,4 @@
--- `circuits::core::fours` meets its contract: the fours still to come, poured behind those written, make the whole.
+-- `circuits::kernel::fours` meets its contract: the fours still to come, poured behind those written, make the whole.
 use borrow.Author.Rules.{rules}
 use mathlib.Core.Path.{refl}
 use Rattle.circuits.specs.Numbering.{fours}

@@ -1,4 +1,4 @@
--- `circuits::core::some_zero` meets its contract.
+-- `circuits::kernel::some_zero` meets its contract.
 use Rattle.std.specs.Prelude.{◌≡◌, true, false, ℤ, pos}
 use mathlib.Core.Path.{sym, ◌∙◌}
 use borrow.Author.Tests.{eq-eqb, ne_eqb}

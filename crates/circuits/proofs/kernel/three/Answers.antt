@@ -1,4 +1,4 @@
--- `circuits::core::three` meets its contract.
+-- `circuits::kernel::three` meets its contract.
 use Rattle.std.specs.Prelude.{◌≡◌, true}
 use mathlib.Core.Path.{sym, ◌∙◌, ap}
 use borrow.Author.Tests.{eq-eqb, ne_eqb}

@@ -1,4 +1,4 @@
--- `circuits::core::threes` meets its contract: the threes still to come, poured behind those written, make the whole.
+-- `circuits::kernel::threes` meets its contract: the threes still to come, poured behind those written, make the whole.
 use borrow.Author.Rules.{rules}
 use mathlib.Core.Path.{refl}
 use Rattle.circuits.specs.Numbering.{threes}

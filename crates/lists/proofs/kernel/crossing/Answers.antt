@@ -1,4 +1,4 @@
--- `lists::core::crossing` meets its contract: no circuit so far has both sides inside triples of the list.
+-- `lists::kernel::crossing` meets its contract: no circuit so far has both sides inside triples of the list.
 use Rattle.std.specs.Prelude.{◌≡◌, Bool, false, ◌&&◌}
 use mathlib.Core.Path.{refl, sym, ◌∙◌, ap}
 use mathlib.Core.Bool.{and-false}

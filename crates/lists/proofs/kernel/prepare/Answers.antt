@@ -1,4 +1,4 @@
--- `lists::core::prepare` meets its contract: the rows are written part by part, each part behind those that it reads.
+-- `lists::kernel::prepare` meets its contract: the rows are written part by part, each part behind those that it reads.
 use mathlib.Core.Path.{refl}
 use Rattle.std.specs.Prelude.{ℕ, ◌+◌, ◌*◌, ◌≤◌, List, length, ℤ}
 use native.Mathlib.Omega.{arith}

@@ -1,4 +1,4 @@
--- `lists::core::refusal` meets its contract: the tests by sets of triples, in the order of their numbers.
+-- `lists::kernel::refusal` meets its contract: the tests by sets of triples, in the order of their numbers.
 use Rattle.std.specs.Prelude.{◌≡◌, ◌≤◌, Bool, not}
 use mathlib.Core.Path.{sym, ◌∙◌, ap}
 use mathlib.Core.Bool.{not, not-not}

@@ -1,4 +1,4 @@
--- `lists::core::sides` meets its contract: the rows written so far, and the holders below them, which stay.
+-- `lists::kernel::sides` meets its contract: the rows written so far, and the holders below them, which stay.
 use Rattle.std.specs.Prelude.{get_or}
 use mathlib.Core.Path.{refl, ◌∙◌, ap}
 use native.Mathlib.Omega.{arith}

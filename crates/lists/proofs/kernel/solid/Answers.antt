@@ -1,4 +1,4 @@
--- `lists::core::solid` meets its contract: the triples that are not flat among those gone through.
+-- `lists::kernel::solid` meets its contract: the triples that are not flat among those gone through.
 use Rattle.std.specs.Prelude.{◌≡◌, ℕ, ◌*◌, ◌<◌, Bool, not, eqb, List, [], ◌∷◌, ℤ, pos}
 use mathlib.Core.Path.{sym, ◌∙◌, ap}
 use native.Mathlib.Omega.{arith}

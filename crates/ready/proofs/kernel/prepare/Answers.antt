@@ -1,4 +1,4 @@
--- `ready::core::prepare` meets its contract: the stars are written behind what a test reads, those of the plus sides and then those of the minus sides.
+-- `ready::kernel::prepare` meets its contract: the stars are written behind what a test reads, those of the plus sides and then those of the minus sides.
 use Rattle.std.specs.Prelude.{ℕ, ◌+◌, ◌*◌, ◌^◌, ◌<◌, ◌≤◌, List, length, get_or, ℤ}
 use native.Mathlib.Omega.{arith}
 use Rattle.shots.specs.Sizes.{shots_most, mask_bits}

@@ -1,4 +1,4 @@
--- `ready::core::stars` meets its contract: the rows written so far, and the holders below them, which stay.
+-- `ready::kernel::stars` meets its contract: the rows written so far, and the holders below them, which stay.
 use mathlib.Core.Path.{refl}
 use native.Mathlib.Omega.{arith}
 use borrow.Author.Rules.{rules}

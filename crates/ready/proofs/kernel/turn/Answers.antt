@@ -1,4 +1,4 @@
--- `ready::core::turn` meets its contract: the table holds the stars of the circuit's sides, and what is found between them is the flip along it.
+-- `ready::kernel::turn` meets its contract: the table holds the stars of the circuit's sides, and what is found between them is the flip along it.
 use Rattle.std.specs.Prelude.{◌≡◌, ℕ, ◌+◌, ◌*◌, ◌^◌, ◌<◌, ◌≤◌, List, length, get_or, ℤ}
 use mathlib.Core.Path.{refl, sym, ◌∙◌}
 use native.Mathlib.Omega.{arith}

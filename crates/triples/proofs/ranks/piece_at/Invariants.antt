@@ -1,0 +1,8 @@
+use Rattle.triples.proofs.PieceLaws.{Reached}
+use Rattle.triples.proofs.ranks.piece_at.Given as goal
+
+abbrev pub invariant-loop-left : goal.invariant-loop-left
+invariant-loop-left l = Reached l.size l.n l.r l.x l.a l.left l.rest
+
+abbrev pub decreases-loop-left : goal.decreases-loop-left
+decreases-loop-left l = l.left
