@@ -23,7 +23,7 @@ use Rattle.records.specs.Calls.{read_patch_of}
 use Rattle.text.specs.Lines.{Put, patch_line, refused_line}
 use Rattle.report.specs.Report.{Ended, first_line, surfaces_text, end_text, end_of, walk_of, walk_text, placed_text, patch_text, report_of}
 use Rattle.report.proofs.Promises.{report_long}
-use Rattle.patchwalk.specs.Written.{StopsShort}
+use Rattle.streams.specs.Written.{StopsShort}
 
 pub on_err : {T E Q : Type 0} (r : Result T E) → Q → OnErr r Q
 on_err (Ok x) q = tt

@@ -8,9 +8,7 @@ ghost use Rattle.std.specs.Io.KnownBytes.{Appends};
 ghost use Rattle.records.specs.Fields.{Bytes};
 ghost use Rattle.report.specs.Report.{report_of};
 ghost use Rattle.report.specs.Sizes.{part_lines};
-ghost use Rattle.patchwalk.specs.Written.{StopsShort};
-
-mod streams;
+ghost use Rattle.streams.specs.Written.{StopsShort};
 
 use std::io;
 use std::io::{Read, Write};

@@ -2,7 +2,7 @@
 use Rattle.std.proofs.Common.{rules}
 use Rattle.std.proofs.lemmas.Result.{on_ok_weaker, on_err_weaker}
 use Rattle.std.specs.Io.KnownBytes.{Appends}
-use Rattle.patchwalk.specs.Written.{StopsShort}
+use Rattle.streams.specs.Written.{StopsShort}
 use Rattle.patchwalk.proofs.PrintLaws.{on_err, read_all, stops_first}
 use Rattle.patchwalk.proofs.run.Goals as goal
 

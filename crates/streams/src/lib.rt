@@ -1,8 +1,11 @@
-// Reading to the end, as far as there is room, and writing all, or a front where a write fails. What a signal cuts off is done again.
+// Streams: reading to the end, as far as there is room, and writing all, or a front where a write fails. What a signal cuts off is done again. It has no call of its own;
+// `patchwalk` and `runcases` read and write by it. Where a reader's or a writer's bytes are known, the contracts say what becomes of them.
+#![tactic(auto)]
+
 ghost use Rattle.std.specs.Prelude.{◌<◌, IfOk, OnErr, OnOk, length, take};
 ghost use Rattle.std.specs.Io.{ReadsAtMost, WritesAtMost};
 ghost use Rattle.std.specs.Io.KnownBytes.{Appends, Consumes, IsAtEnd, ReadConsumes, WriteAppends};
-ghost use Rattle.patchwalk.specs.Written.{StopsShort};
+ghost use Rattle.streams.specs.Written.{StopsShort};
 
 use std::io;
 use std::io::{ErrorKind, Read, Write};
