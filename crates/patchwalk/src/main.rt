@@ -3,12 +3,15 @@
 // was written is then a front of the report, and not all of it.
 #![tactic(auto)]
 
-ghost use Rattle.std.specs.Io.{ReadsAtMost};
-ghost use Rattle.std.specs.Prelude.{◌-◌, ◌≤◌, ◌<◌};
+ghost use Rattle.std.specs.Prelude.{◌-◌, ◌≤◌, ◌<◌, IfSome, OnErr, OnOk};
+ghost use Rattle.std.specs.Io.KnownBytes.{Appends};
+ghost use Rattle.records.specs.Fields.{Bytes};
+ghost use Rattle.report.specs.Report.{report_of};
 ghost use Rattle.report.specs.Sizes.{part_lines};
+ghost use Rattle.streams.specs.Written.{StopsShort};
 
 use std::io;
-use std::io::{ErrorKind, Read};
+use std::io::{Read, Write};
 
 // One byte more than the longest record, so that what is longer is seen to be.
 const INPUT_MOST: usize = 65538;
@@ -24,47 +27,39 @@ fn behind(from: usize, lines: usize) -> usize
     from + report::PART_LINES
 }
 
-// One read, made again where a signal cut it off.
-fn read_some<R: Read>(from: &mut R, room: &mut [u8]) -> io::Result<usize>
-    ensures { ReadsAtMost result room.new }
+// Prints the report of the bytes, a part at a time.
+fn print<W: Write>(out: &mut W, bytes: &[u8]) -> io::Result<()>
+    ensures all { OnOk result
+        (Appends (W.contents out.old) (W.contents out.new) (report_of bytes.now)) }
+    ensures front { OnErr result
+        (StopsShort (W.contents out.old) (W.contents out.new) (report_of bytes.now)) }
 {
-    for _ in 0..u64::MAX {
-        match from.read(room) {
-            Err(e) if e.kind() == ErrorKind::Interrupted => {}
-            answer => return answer,
-        }
-    }
-    from.read(room)
-}
-
-// The bytes read, as far as there is room; how many there are.
-fn load<R: Read>(from: &mut R, room: &mut [u8; INPUT_MOST]) -> io::Result<usize>
-    ensures { ReadsAtMost result room.new }
-{
-    let mut done = 0;
-    while done < room.len() {
-        let n = read_some(from, &mut room[done..])?;
-        if n == 0 {
-            break;
-        }
-        done += n;
-    }
-    Ok(done)
-}
-
-fn main(rt: HostRuntime) -> io::Result<()> {
-    let mut input = [0u8; INPUT_MOST];
-    let n = load(&mut rt.stdin(), &mut input)?;
     let mut table = [0u64; report::TABLE_WORDS];
-    let found = report::walked::find(&input[..n], &mut table);
+    let found = report::walked::find(bytes, &mut table);
     let lines = report::lines::count(found);
     let mut text = [0u8; report::PART_MOST];
     let mut from = 0;
     while from < lines {
         let to = behind(from, lines);
-        let k = report::lines::part(&input[..n], &table, found, from, to, &mut text);
-        rt.write_all(&text[..k])?;
+        let k = report::lines::part(bytes, &table, found, from, to, &mut text);
+        streams::put(out, &text[..k])?;
         from = to;
     }
     Ok(())
+}
+
+// Reads a record and prints its report.
+fn run<R: Read, W: Write>(input: &mut R, out: &mut W) -> io::Result<()>
+    ensures all { OnOk result (IfSome (R.remaining input.old)
+        (λ bs. Bytes bs → Appends (W.contents out.old) (W.contents out.new) (report_of bs))) }
+    ensures front { OnErr result (IfSome (R.remaining input.old)
+        (λ bs. Bytes bs → StopsShort (W.contents out.old) (W.contents out.new) (report_of bs))) }
+{
+    let mut room = [0u8; INPUT_MOST];
+    let n = streams::load(input, &mut room)?;
+    print(out, &room[..n])
+}
+
+fn main(rt: HostRuntime) -> io::Result<()> {
+    run(&mut rt.stdin(), &mut rt.stdout())
 }

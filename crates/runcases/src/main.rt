@@ -1,10 +1,12 @@
 // runcases: reads a stream of cases on standard input and prints for each what the call answered and what it left in all that it was lent. docs/CASES.md has the form of both.
 #![tactic(auto)]
 
+ghost use Rattle.std.specs.Prelude.{◌<◌, IfOk, take};
 ghost use Rattle.std.specs.Io.{ReadsAtMost};
+ghost use Rattle.std.specs.Io.KnownBytes.{Consumes, IsAtEnd};
 
 use std::io;
-use std::io::{BufWriter, ErrorKind, Read, Write};
+use std::io::{BufWriter, Read, Write};
 
 mod calls;
 mod parse;
@@ -23,32 +25,14 @@ const BYTES_ROOM: usize = 65600;
 
 const TABLE_ROOM: usize = 131080;
 
-// One read, made again where a signal cut it off.
-fn read_some<R: Read>(input: &mut R, room: &mut [u8]) -> io::Result<usize>
-    ensures { ReadsAtMost result room.new }
-{
-    for _ in 0..u64::MAX {
-        match input.read(room) {
-            Err(e) if e.kind() == ErrorKind::Interrupted => {}
-            answer => return answer,
-        }
-    }
-    input.read(room)
-}
-
 // The stream, as far as there is room; how many bytes it has there.
 fn load<R: Read>(input: &mut R, stream: &mut [u8; STREAM_ROOM]) -> io::Result<usize>
-    ensures { ReadsAtMost result stream.new }
+    ensures within { ReadsAtMost result stream.new }
+    ensures bytes { IfOk result
+        (λ n. Consumes (R.remaining input.old) (R.remaining input.new) (take n stream.new)) }
+    ensures end { IfOk result (λ n. n < 524289 → IsAtEnd (R.remaining input.new)) }
 {
-    let mut done = 0;
-    while done < stream.len() {
-        let n = read_some(input, &mut stream[done..])?;
-        if n == 0 {
-            break;
-        }
-        done += n;
-    }
-    Ok(done)
+    streams::load(input, stream)
 }
 
 // The cases, line by line.

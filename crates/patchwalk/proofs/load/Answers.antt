@@ -1,5 +1,0 @@
-use Rattle.std.proofs.Common.{arith, length-take}
-use Rattle.patchwalk.proofs.load.Goals as goal
-
-pub returns-after-loop-done : goal.returns-after-loop-done
-returns-after-loop-done g c = (omega arith, simp length-take (omega arith))
