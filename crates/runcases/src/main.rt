@@ -6,7 +6,7 @@ ghost use Rattle.std.specs.Io.{ReadsAtMost};
 ghost use Rattle.std.specs.Io.KnownBytes.{Consumes, IsAtEnd};
 
 use std::io;
-use std::io::{BufWriter, Read, Write};
+use std::io::{Read, Write};
 
 mod calls;
 mod parse;
@@ -55,14 +55,12 @@ fn all<W: Write>(
 fn main(rt: HostRuntime) -> io::Result<()> {
     let mut stream = [0u8; STREAM_ROOM];
     let n = load(&mut rt.stdin(), &mut stream)?;
-    let mut out = BufWriter::new(rt.alloc(), rt.stdout())?;
+    let mut out = rt.stdout();
     if STREAM_MOST < n {
-        show::text(&mut out, b"stream too long\n")?;
-        return out.flush();
+        return show::text(&mut out, b"stream too long\n");
     }
     let mut cells = [0u64; TABLE_ROOM];
     let mut bytes = [0u8; BYTES_ROOM];
     let mut more = [0u8; BYTES_ROOM];
-    all(&mut out, &stream[..n], &mut cells, &mut bytes, &mut more)?;
-    out.flush()
+    all(&mut out, &stream[..n], &mut cells, &mut bytes, &mut more)
 }
