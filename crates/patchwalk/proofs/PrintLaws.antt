@@ -5,7 +5,7 @@
 --   stops_on       a front of a part, behind what is written: a front of the whole
 --   read_text      the report of what was read is that of the whole input, however long; `read_all`: so is what holds of it
 --   stops_first    nothing is a front of a report, and not all of it
-use Rattle.std.proofs.Common.{◌≡◌, ◌∙◌, refl, sym, ap, subst, ℕ, ◌+◌, ◌<◌, ◌≤◌, List, [], ◌++◌, length, take, get_or, append_assoc, append-nil, length-append, length-take-le, arith, Some, None, IfSome, Result, Ok, Err, OnErr, Bool, ◌⊎◌, inl, inr, true, false, cond, ℤ, ◌==◌}
+use Rattle.std.proofs.Common.{◌≡◌, ◌∙◌, refl, sym, ap, subst, ℕ, ◌<◌, ◌≤◌, List, [], ◌++◌, length, take, get_or, append_assoc, append-nil, length-append, length-take-le, arith, Some, None, IfSome, Result, Ok, Err, OnErr, Bool, ◌⊎◌, inl, inr, true, false, cond, ℤ, ◌==◌}
 use Rattle.std.proofs.lemmas.Bool.{cases_lt}
 use Rattle.std.proofs.lemmas.List.{get_or_past}
 use Rattle.std.proofs.Math.ListN.{get_or-append}
@@ -13,7 +13,6 @@ use Rattle.std.specs.declared.option.Option.{Option}
 use Rattle.std.specs.Io.KnownBytes.{Appends, Consumes, IsAtEnd}
 use Rattle.std.proofs.KnownBytes.{Appends-nil, Appends-trans}
 use Rattle.algebra.specs.Answer.{Answer, gives, refuses}
-use Rattle.algebra.specs.Writing.{wrote}
 use Rattle.algebra.proofs.WritingLaws.{wrote-length, wrote_taken}
 use Rattle.reach.specs.Walks.{Reply, made, done}
 use Rattle.surfaces.specs.Calls.{placing_of}

@@ -1,6 +1,6 @@
 // patchwalk: reads one patch record on standard input, walks from its placing surface over all surfaces that flips reach, and prints them.
-// The lines of the report are proved functions of the bytes read (crates/report); here they are read and written, a part at a time. A write that fails ends it: what
-// was written is then a front of the report, and not all of it.
+// The lines of the report are proved functions of the bytes read (crates/report). Here they are read and written, a part at a time, and what is written is proved to be the report; where a read or
+// a write fails, a front of it, and not all of it.
 #![tactic(auto)]
 
 ghost use Rattle.std.specs.Prelude.{◌-◌, ◌≤◌, ◌<◌, IfSome, OnErr, OnOk};

@@ -1,11 +1,11 @@
 -- The rows that were found fit their table; each part begins where the last one ended and ends within the lines; so the report is written, part by part.
-use Rattle.std.proofs.Common.{◌∙◌, sym, ap, subst, arith, rules, ◌≡◌, ◌++◌, length, take, ◌≤◌}
+use Rattle.std.proofs.Common.{◌∙◌, sym, ap, subst, arith, rules, ◌≡◌, ◌++◌}
 use Rattle.std.specs.Io.KnownBytes.{Appends}
 use Rattle.std.proofs.KnownBytes.{Appends-nil, Appends-trans}
 use Rattle.algebra.specs.Loops.{over}
 use Rattle.algebra.proofs.OverLaws.{over_end, over-split}
 use Rattle.records.specs.Reading.{coordinates_of}
-use Rattle.report.specs.Report.{find_of, line_of, line_count, report_of}
+use Rattle.report.specs.Report.{find_of, line_of, line_count}
 use Rattle.report.proofs.LineLaws.{Fits, find_fits}
 use Rattle.report.proofs.Promises.{report_lines}
 use Rattle.patchwalk.proofs.PrintLaws.{on_err, part_text, stops_on}
