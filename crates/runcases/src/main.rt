@@ -1,7 +1,7 @@
 // runcases: reads a stream of cases on standard input and prints for each what the call answered and what it left in all that it was lent. docs/CASES.md has the form of both.
 #![tactic(auto)]
 
-ghost use Rattle.std.specs.Prelude.{◌<◌, IfOk, take};
+ghost use Rattle.std.specs.Prelude.{◌<◌, IfOk, length, take};
 ghost use Rattle.std.specs.Io.{ReadsAtMost};
 ghost use Rattle.std.specs.Io.KnownBytes.{Consumes, IsAtEnd};
 
@@ -30,7 +30,7 @@ fn load<R: Read>(input: &mut R, stream: &mut [u8; STREAM_ROOM]) -> io::Result<us
     ensures within { ReadsAtMost result stream.new }
     ensures bytes { IfOk result
         (λ n. Consumes (R.remaining input.old) (R.remaining input.new) (take n stream.new)) }
-    ensures end { IfOk result (λ n. n < 524289 → IsAtEnd (R.remaining input.new)) }
+    ensures end { IfOk result (λ n. n < length stream.new → IsAtEnd (R.remaining input.new)) }
 {
     streams::load(input, stream)
 }
