@@ -1,4 +1,4 @@
--- The report of the bytes that `patchwalk` reads: all its text. That the program prints its parts in their order is outside the proof.
+-- The report of the bytes that `patchwalk` reads: all its text. The program writes it part by part.
 --
 --   no_walk, begun_of l w    the record before the start; what the start from the list w leaves, in a table of 4,096 rows
 --   walk_of l w        where the walk from it ends
