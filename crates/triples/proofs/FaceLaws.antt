@@ -22,7 +22,7 @@ use Rattle.algebra.proofs.BitLaws.{bit_mask}
 use Rattle.algebra.proofs.MaskLaws.{set_of_mask}
 use Rattle.shots.specs.Sizes.{mask_bits}
 use Rattle.triples.specs.Ranks.{piece_count, piece_at}
-use Rattle.triples.specs.Pieces.{piece_of, pieces_in, holds, holders_of, is_face}
+use Rattle.triples.specs.Pieces.{piece_of, pieces_in, holds, holder_count, is_face}
 
 pub holds_decided : (n : ℕ) (s t : List ℕ) → n ≤ mask_bits → Within 0 s n → Within 0 t n → Reflects ((i : ℕ) → On s i → On t i) (holds (mask_of s) (mask_of t))
 unfolding holds
@@ -68,8 +68,8 @@ module _ (k n : ℕ) where
             total = tally m (λ r. cond (member w r) 1 0)
 
     module _ (x : ℕ) where
-      pub holders_count : holders_of (pieces_in k n w) x ≡ tally (piece_count k n) (λ r. cond (member w r && holds x (piece_of k n r)) 1 0)
-      unfolding pieces_in holders_of
+      pub holders_count : holder_count (pieces_in k n w) x ≡ tally (piece_count k n) (λ r. cond (member w r && holds x (piece_of k n r)) 1 0)
+      unfolding pieces_in holder_count
       holders_count =
           sum-map (λ p. cond (holds x p) 1 0) (piece_of k n) (picks (piece_count k n) (member w)) ∙ sum-picks (λ r. cond (holds x (piece_of k n r)) 1 0) (member w) (piece_count k n)
           ∙ tally_same _ _ (piece_count k n) (λ r _. joined (member w r) (holds x (piece_of k n r)))

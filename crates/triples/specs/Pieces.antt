@@ -3,7 +3,7 @@
 --   piece_of k n r        the piece of rank r
 --   pieces_in k n w       the pieces of the list w, in the order of their ranks
 --   holds x p            the piece p holds every shot of the mask x
---   holders_of ps x       how many of the pieces ps hold x
+--   holder_count ps x       how many of the pieces ps hold x
 --   is_face ps x          x is a face: some piece holds it
 --   Ranked k n t         place r of t has the piece of rank r
 --   Piece k n x          the mask x is k of n shots
@@ -26,11 +26,11 @@ pieces_in k n w = map (piece_of k n) (picks (piece_count k n) (member w))
 unfoldable pub holds : ℕ → ℕ → Bool
 holds x p = not (any mask_bits (λ i. bit x i && not (bit p i)))
 
-unfoldable pub holders_of : List ℕ → ℕ → ℕ
-holders_of ps x = sum_of (λ p. cond (holds x p) 1 0) ps
+unfoldable pub holder_count : List ℕ → ℕ → ℕ
+holder_count ps x = sum_of (λ p. cond (holds x p) 1 0) ps
 
 abbrev pub is_face : List ℕ → ℕ → Bool
-is_face ps x = ltb 0 (holders_of ps x)
+is_face ps x = ltb 0 (holder_count ps x)
 
 abbrev pub Ranked : ℕ → ℕ → List ℕ → Type 0
 Ranked k n t = (r : ℕ) → r < piece_count k n → get_or t r 0 ≡ piece_of k n r

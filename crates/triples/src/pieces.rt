@@ -3,7 +3,7 @@ ghost use Rattle.std.specs.Prelude.{◌≡◌, ◌*◌, ◌^◌, ◌≤◌, ◌<
 ghost use Rattle.algebra.specs.Words.{word_bits};
 ghost use Rattle.shots.specs.Sizes.{shots_most, mask_bits};
 ghost use Rattle.triples.specs.Ranks.{piece_count};
-ghost use Rattle.triples.specs.Pieces.{pieces_in, holders_of, is_face, Ranked};
+ghost use Rattle.triples.specs.Pieces.{pieces_in, holder_count, is_face, Ranked};
 
 use super::{masks, ranks, words};
 
@@ -39,7 +39,7 @@ pub fn fill(size: usize, n: usize, all: &[u16], list: &[u64], out: &mut [u16]) -
 // How many of the pieces hold every shot of the mask x. The whole run is looked at, in so few bits, so that many pieces can be looked at at once.
 pub fn holders(pieces: &[u16], x: u16) -> u16
     requires { length pieces.now < 2 ^ mask_bits }
-    ensures { result ≡ holders_of pieces.now x }
+    ensures { result ≡ holder_count pieces.now x }
 {
     let mut count = 0;
     let mut t = 0;
