@@ -9,7 +9,7 @@ ghost use Rattle.outline.specs.Wrapping.{first_of, passes_of, next_of, chain_of}
 use shots::{SHOTS_MOST, pairs, plane};
 
 // The first `count` of `at` are the shots of a chain.
-#[derive(Drop)]
+#[derive(Clone, Copy)]
 pub struct Corners {
     pub at: [u8; SHOTS_MOST],
     pub count: usize,

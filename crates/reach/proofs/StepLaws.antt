@@ -21,7 +21,7 @@
 --   goes_none, goes_on, step_goes    no step, one more, one: each goes so where it is made
 --   goes_possible                    a record that was possible is so after them
 --   step_made_leaves                 what a step that is made leaves, by its two cases (specs/Leaving)
---   row_by_row                       the same row by row; tried-size: what a flip gives is as long as a row
+--   row_by_row                       the same row by row; tried_size: what a flip gives is as long as a row
 --   step_unmade, step_keeps, done_keeps, start_keeps    a call that is not made changes nothing
 --   step_stops                       a step that is not made is done or refuses
 --   done_end                         done is answered at the end alone

@@ -55,7 +55,7 @@ pub enum Counted {
 }
 
 // The signs stand beside the answer: 0 past the shots, and 0 everywhere where the call is refused.
-#[derive(Drop)]
+#[derive(Clone, Copy)]
 pub struct Signs {
     pub answer: Accepted,
     pub signs: [i8; SHOTS_MOST],
@@ -69,7 +69,7 @@ pub enum Patched {
 }
 
 // Their coordinates stand beside the answer: 0 past the shots, and 0 everywhere where the call is refused.
-#[derive(Drop)]
+#[derive(Clone, Copy)]
 pub struct Handed {
     pub answer: Patched,
     pub coordinates: [i32; COORDINATES_MOST],

@@ -1,10 +1,10 @@
 -- The pieces of a list as masks of shots, shot i at bit i, and what is asked of a list by them. k is the number of shots of a piece.
 --
---   piece_of k n r        the piece of rank r
---   pieces_in k n w       the pieces of the list w, in the order of their ranks
+--   piece_of k n r       the piece of rank r
+--   pieces_in k n w      the pieces of the list w, in the order of their ranks
 --   holds x p            the piece p holds every shot of the mask x
---   holder_count ps x       how many of the pieces ps hold x
---   is_face ps x          x is a face: some piece holds it
+--   holder_count ps x    how many of the pieces ps hold x
+--   is_face ps x         x is a face: some piece holds it
 --   Ranked k n t         place r of t has the piece of rank r
 --   Piece k n x          the mask x is k of n shots
 --   Pieces k n ps        so are all of ps, and they are few enough to be counted

@@ -1,7 +1,7 @@
 -- What the public calls of this room answer and leave, for every input: the walk of the room `reach`, over a patch.
 --
 --   ground_of l            the ground of a patch: the shots' rules, two words a row, the patch's circuits, its test and its flip
---   read_walk w            the code's walk record; walkAs: back
+--   read_walk w            the code's walk record; walk_as: back
 --   read_started, read_stepped    the refusal number, or what each case of an answer says
 --   start_landing, step_landing   all that a call leaves: from its answer, the record and the table
 --   after_start, after_step       the same, from what a call by value hands back
