@@ -1,4 +1,4 @@
-// The parts of the walk's calls that the prover covers by itself: what is done before and after the room's call, which keeps the record in its place.
+// What is done before and after the room's call in the walk's calls: the record stays in its place.
 ghost use Rattle.std.specs.Prelude.{◌≡◌};
 ghost use Rattle.triples.specs.Sets.{words_of};
 ghost use Rattle.walks.specs.Calls.{read_started, read_stepped};

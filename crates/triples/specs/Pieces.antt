@@ -5,7 +5,7 @@
 --   holds x p            the piece p holds every shot of the mask x
 --   holder_count ps x    how many of the pieces ps hold x
 --   is_face ps x         x is a face: some piece holds it
---   Ranked k n t         place r of t has the piece of rank r
+--   InRankOrder k n t    place r of t has the piece of rank r
 --   Piece k n x          the mask x is k of n shots
 --   Pieces k n ps        so are all of ps, and they are few enough to be counted
 --
@@ -32,8 +32,8 @@ holder_count ps x = sum_of (λ p. cond (holds x p) 1 0) ps
 abbrev pub is_face : List ℕ → ℕ → Bool
 is_face ps x = ltb 0 (holder_count ps x)
 
-abbrev pub Ranked : ℕ → ℕ → List ℕ → Type 0
-Ranked k n t = (r : ℕ) → r < piece_count k n → get_or t r 0 ≡ piece_of k n r
+abbrev pub InRankOrder : ℕ → ℕ → List ℕ → Type 0
+InRankOrder k n t = (r : ℕ) → r < piece_count k n → get_or t r 0 ≡ piece_of k n r
 
 abbrev pub Piece : ℕ → ℕ → ℕ → Type 0
 Piece k n x = (x < 2 ^ n) × (length (set_of n x) ≡ k)

@@ -3,29 +3,29 @@ ghost use Rattle.std.specs.Prelude.{◌≡◌, ◌*◌, ◌^◌, ◌≤◌, ◌<
 ghost use Rattle.algebra.specs.Words.{word_bits};
 ghost use Rattle.shots.specs.Sizes.{shots_most, mask_bits};
 ghost use Rattle.triples.specs.Ranks.{piece_count};
-ghost use Rattle.triples.specs.Pieces.{pieces_in, holder_count, is_face, Ranked};
+ghost use Rattle.triples.specs.Pieces.{pieces_in, holder_count, is_face, InRankOrder};
 
 use super::{masks, ranks, words};
 
 // Place r: the piece of rank r.
 pub fn all(size: usize, n: usize, out: &mut [u16])
     requires { (n ≤ shots_most) × (piece_count size n ≤ length out.old) }
-    ensures { (length out.new ≡ length out.old) × Ranked size n out.new }
+    ensures { (length out.new ≡ length out.old) × InRankOrder size n out.new }
 {
-    let count = ranks::count_of(size, n);
+    let count = ranks::piece_count(size, n);
     let mut r = 0;
     while r < count {
-        out[r] = ranks::piece_at(size, n, r);
+        out[r] = ranks::piece_of(size, n, r);
         r += 1;
     }
 }
 
 // The pieces of the list, in the order of their ranks, at the front of out; how many they are.
 pub fn fill(size: usize, n: usize, all: &[u16], list: &[u64], out: &mut [u16]) -> usize
-    requires { (n ≤ shots_most) × (piece_count size n ≤ length all.now) × Ranked size n all.now × (piece_count size n ≤ word_bits * length list.now) × (word_bits * length list.now < 2 ^ word_bits) × (piece_count size n ≤ length out.old) }
+    requires { (n ≤ shots_most) × (piece_count size n ≤ length all.now) × InRankOrder size n all.now × (piece_count size n ≤ word_bits * length list.now) × (word_bits * length list.now < 2 ^ word_bits) × (piece_count size n ≤ length out.old) }
     ensures { (length out.new ≡ length out.old) × (result ≤ piece_count size n) × (take result out.new ≡ pieces_in size n list.now) }
 {
-    let count = ranks::count_of(size, n);
+    let count = ranks::piece_count(size, n);
     let mut t = 0;
     let mut r = words::from(list, 0);
     while r < count {

@@ -112,7 +112,7 @@ pub fn rank(n: usize, i: usize, j: usize, k: usize) -> usize
 }
 
 // How many pieces of so many shots n shots have.
-pub fn count_of(size: usize, n: usize) -> usize
+pub fn piece_count(size: usize, n: usize) -> usize
     requires { n ≤ shots_most }
     ensures { result ≡ piece_count size n }
 {
@@ -120,7 +120,7 @@ pub fn count_of(size: usize, n: usize) -> usize
 }
 
 // The piece of rank r, as a mask: its shots in order, each the first that some piece behind the ones passed over begins with.
-pub fn piece_at(size: usize, n: usize, r: usize) -> u16
+pub fn piece_of(size: usize, n: usize, r: usize) -> u16
     requires { (n ≤ shots_most) × (r < piece_count size n) }
     ensures { result ≡ piece_of size n r }
 {
@@ -139,7 +139,7 @@ pub fn piece_at(size: usize, n: usize, r: usize) -> u16
 }
 
 // The rank of a piece: all pieces but those after it and itself. Those after it that begin with the same shots, and then with a later one, are the sets of the shots behind.
-pub fn rank_of(size: usize, n: usize, x: u16) -> usize
+pub fn rank_in(size: usize, n: usize, x: u16) -> usize
     requires { (n ≤ shots_most) × Piece size n x }
     ensures { result ≡ rank_in size n (set_of n x) }
 {

@@ -17,18 +17,18 @@ loop-r-init c = (refl, λ q h. absurd (omega arith))
 
 -- there is room
 room : (c : In-loop-r) → c.loop-r.r < length c.loop-r.out
-room c = omega (arith, c.loop-r-test.true, c.loop-r.invariant.0, c.count_of-count.ensures, c.requires.1)
+room c = omega (arith, c.loop-r-test.true, c.loop-r.invariant.0, c.piece_count-count.ensures, c.requires.1)
 
 pub loop-r-preserved : goal.loop-r-preserved
 loop-r-preserved c =
-    (length-set c.loop-r.out _ _ ∙ c.loop-r.invariant.0, ranked_more c.args.size c.args.n c.loop-r.out c.loop-r.r (room c.before) c.loop-r.invariant.1 c.piece_at.ensures)
+    (length-set c.loop-r.out _ _ ∙ c.loop-r.invariant.0, ranked_more c.args.size c.args.n c.loop-r.out c.loop-r.r (room c.before) c.loop-r.invariant.1 c.piece_of.ensures)
 
 pub returns : goal.returns
 returns c =
-    (c.loop-r.invariant.0, λ q h. c.loop-r.invariant.1 q (omega (arith, c.loop-r-test.false, c.count_of-count.ensures)))
+    (c.loop-r.invariant.0, λ q h. c.loop-r.invariant.1 q (omega (arith, c.loop-r-test.false, c.piece_count-count.ensures)))
 
-pub piece_at-requires : goal.piece_at-requires
-piece_at-requires c = (c.requires.0, omega (arith, c.loop-r-test.true, c.count_of-count.ensures))
+pub piece_of-requires : goal.piece_of-requires
+piece_of-requires c = (c.requires.0, omega (arith, c.loop-r-test.true, c.piece_count-count.ensures))
 
 pub bounds-out-r : goal.bounds-out-r
 bounds-out-r c = room c.before

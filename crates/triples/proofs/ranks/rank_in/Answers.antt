@@ -1,4 +1,4 @@
--- `triples::ranks::rank_of` meets its contract: all pieces but those after it and itself; those after it are counted by its numbers, from the first on.
+-- `triples::ranks::rank_in` meets its contract: all pieces but those after it and itself; those after it are counted by its numbers, from the first on.
 use mathlib.Core.Path.{◌≡◌}
 use Prim.Native.Nat.{suc, ◌+◌, ◌-◌, ◌^◌, ◌≤◌, ◌<◌}
 use native.Mathlib.Omega.{arith}
@@ -10,10 +10,10 @@ use Rattle.algebra.proofs.ChooseLaws.{choose_most}
 use Rattle.shots.specs.Sizes.{shots_most, mask_bits}
 use Rattle.triples.specs.Ranks.{rank_in}
 use Rattle.triples.proofs.PieceLaws.{rank_by, Passed, passed_none, passed_some, passed_low, passed_more, passed_end}
-use Rattle.triples.proofs.ranks.rank_of.Lts
-use Rattle.triples.proofs.ranks.rank_of.Reads
-use Rattle.triples.proofs.ranks.rank_of.Tie
-use Rattle.triples.proofs.ranks.rank_of.Goals as goal
+use Rattle.triples.proofs.ranks.rank_in.Lts
+use Rattle.triples.proofs.ranks.rank_in.Reads
+use Rattle.triples.proofs.ranks.rank_in.Tie
+use Rattle.triples.proofs.ranks.rank_in.Goals as goal
 
 abbrev Start : Type 0
 Start = Lts.Start Tie.the-claims Reads.Pre Reads.Post goal.the-invariant-loop-left goal.the-decreases-loop-left

@@ -1,7 +1,7 @@
--- `triples::ranks::count_of` meets its contract.
+-- `triples::ranks::piece_count` meets its contract.
 use mathlib.Core.Path.{sym, ◌∙◌}
 use Rattle.triples.proofs.PieceLaws.{count_pieces}
-use Rattle.triples.proofs.ranks.count_of.Goals as goal
+use Rattle.triples.proofs.ranks.piece_count.Goals as goal
 
 pub returns : goal.returns
 returns c = c.choose.ensures ∙ sym (count_pieces c.args.size c.args.n)

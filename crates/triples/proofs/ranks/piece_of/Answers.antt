@@ -1,12 +1,12 @@
--- `triples::ranks::piece_at` meets its contract: the mask so far, and the list at the place that is left, are the piece.
+-- `triples::ranks::piece_of` meets its contract: the mask so far, and the list at the place that is left, are the piece.
 use mathlib.Core.Path.{◌≡◌, subst}
 use Prim.Native.Nat.{ℕ, ◌+◌, ◌-◌}
 use native.Mathlib.Omega.{arith}
 use Rattle.triples.proofs.PieceLaws.{Reached, reached_none, reached_more, reached_end}
-use Rattle.triples.proofs.ranks.piece_at.Lts
-use Rattle.triples.proofs.ranks.piece_at.Reads
-use Rattle.triples.proofs.ranks.piece_at.Tie
-use Rattle.triples.proofs.ranks.piece_at.Goals as goal
+use Rattle.triples.proofs.ranks.piece_of.Lts
+use Rattle.triples.proofs.ranks.piece_of.Reads
+use Rattle.triples.proofs.ranks.piece_of.Tie
+use Rattle.triples.proofs.ranks.piece_of.Goals as goal
 
 abbrev In-loop-left : Type 0
 In-loop-left = Lts.In-loop Tie.the-claims Reads.Pre Reads.Post goal.the-invariant-loop-left goal.the-decreases-loop-left
