@@ -19,3 +19,4 @@ pub mod UnionLaws
 pub mod TrioLaws
 pub mod WordLaws
 pub mod WritingLaws
+pub mod ChainLaws

@@ -131,7 +131,7 @@ third_last n x y k xy yk kn =
 
 -- ---- masks
 
-mask_append : (s t : List ℕ) → mask_of (s ++ t) ≡ mask_of s + mask_of t
+pub mask_append : (s t : List ℕ) → mask_of (s ++ t) ≡ mask_of s + mask_of t
 unfolding mask_of
 mask_append [] t = omega arith
 mask_append (i ∷ s) t = let e = mask_append s t in omega arith

@@ -3,8 +3,7 @@
 --   circuits_few           no more than there are sets of three and of four shots
 --   candidates_most        at most 330 of those for a patch of ten shots or fewer
 --   circuits-most          so at most 330 circuits
---   all_fit                arrays of 330 places have room for all
-use Rattle.std.specs.Prelude.{◌≡◌, ℕ, ◌+◌, ◌≤◌, Bool, true, false, not, List, [], ◌∷◌, length, ℤ}
+use Rattle.std.specs.Prelude.{ℕ, ◌≤◌, Bool, true, false, not, List, [], ◌∷◌, length, ℤ}
 use native.Mathlib.Omega.{arith}
 use native.Mathlib.Nat.{le_trans}
 use lib.ListN.{length-append}
@@ -19,7 +18,6 @@ use Rattle.shots.specs.Patch.{count_of, orient_of}
 use Rattle.circuits.specs.Sizes.{circuits_most, candidates}
 use Rattle.circuits.specs.Sides.{TwoSides, split}
 use Rattle.circuits.proofs.Sources.{three_of, four_of, threes-nest, fours-nest}
-use Rattle.circuits.specs.Filled.{Filled, Fits}
 use Rattle.circuits.specs.Numbering.{one_if, terms3, terms4, flat_among, three, four, threes, fours, circuits_of}
 
 -- one circuit at most
@@ -62,8 +60,3 @@ candidates_most n h = omega (arith, length-append (sets_of 3 n) (sets_of 4 n), s
 
 pub circuits-most : (l : List ℤ) → count_of l ≤ shots_most → length (circuits_of l) ≤ circuits_most
 circuits-most l h = le_trans (circuits_few l) (candidates_most (count_of l) h)
-
--- arrays with a place for each candidate have room for all circuits
-pub all_fit : (l : List ℤ) (f : Filled) → count_of l ≤ shots_most → f.next ≡ 0 → circuits_most ≤ length f.plus → circuits_most ≤ length f.minus → Fits f (length (threes l) + length (fours l))
-unfolding circuits_of
-all_fit l f h e p m = let k = circuits-most l h in let s = length-append (threes l) (fours l) in (omega arith, omega arith)

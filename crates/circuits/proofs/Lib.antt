@@ -1,5 +1,5 @@
 pub mod MaskLaws
-pub mod FilledLaws
+pub mod FoundLaws
 pub mod SideLaws
 pub mod StepLaws
 pub mod Sources

@@ -1,6 +1,5 @@
 -- Laws of sides as masks.
 --
---   bit_room        a side below bit i has room for it
 --   below-begun, below-joined, below-three    the shots so far stay below a larger one
 --   Signed ts       no term's sign is nought
 --   gather z s ts   the terms ts joined to z, those of sign s on its plus side
@@ -16,10 +15,6 @@ use Rattle.circuits.specs.declared.Sides.{Sides}
 use Rattle.circuits.specs.Sides.{Term, side, split, masks}
 use Rattle.circuits.specs.Joined.{begun, joined, sides3, Below}
 use Rattle.algebra.specs.Sets.{mask_of}
-use Rattle.shots.specs.Sizes.{mask_bits}
-
-pub bit_room : (x i : ℕ) → i < mask_bits → x < 2 ^ i → x + 2 ^ i < 2 ^ mask_bits
-bit_room x i h k = omega (arith, pow_mono {i = suc i} {j = mask_bits} h)
 
 pub below-begun : (i j : ℕ) → i < j → Below (begun i) j
 below-begun i j h = (omega (arith, pow_mono {i = suc i} {j = j} h, pow_pos i), pow_pos j)

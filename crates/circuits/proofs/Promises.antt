@@ -17,9 +17,9 @@ use Rattle.std.specs.Prelude.{◌≡◌, ℕ, ◌^◌, ◌<◌, ◌≤◌, ◌�
 use mathlib.Core.Path.{refl, sym, ◌∙◌, ap}
 use mathlib.Core.Logic.{inl, inr, ⊎_elim}
 use native.Mathlib.Omega.{arith}
-use Rattle.algebra.specs.Answer.{Answer, gives, refuses, First, Clear, Decides}
+use Rattle.algebra.specs.Answer.{gives, refuses, First, Clear, Decides}
 use Rattle.algebra.specs.Sign.{minus, plus, opposite}
-use Rattle.algebra.proofs.AnswerLaws.{chain_refuses, chain_gives, one_answer, decides-append, clear-append, reflects_leb}
+use Rattle.algebra.proofs.AnswerLaws.{chain_refuses, chain_gives, decides-append, clear-append, reflects_leb}
 use Rattle.algebra.proofs.SignLaws.{opposite-opposite}
 use Rattle.matroid.specs.Circuits.{SignVector, Circuit, Alike, against}
 use Rattle.matroid.proofs.CircuitLaws.{circuit_alike, circuit-against}
@@ -27,28 +27,19 @@ use Rattle.shots.specs.Coordinates.{patch_of}
 use Rattle.shots.specs.Patch.{count_of}
 use Rattle.shots.specs.Tests.{shot_rules, refusal_of}
 use Rattle.shots.specs.Lines.{shot_lines}
-use Rattle.shots.specs.Calls.{read_counted}
-use Rattle.shots.specs.declared.Counted.{Counted}
-use Rattle.shots.proofs.Promises.{shots_decided, shots_kept, counted_one}
+use Rattle.std.proofs.Common.{Result}
+use Rattle.shots.specs.Refusals.{answered}
+use Rattle.shots.specs.declared.refusal.Refusal.{Refusal}
+use Rattle.shots.proofs.Promises.{shots_decided, shots_kept}
+use Rattle.shots.proofs.RefusalLaws.{answered_one}
 use Rattle.circuits.specs.Sides.{masks, mask_signs}
 use Rattle.circuits.specs.Numbering.{circuits_of}
 use Rattle.circuits.specs.Lines.{NotCircuit, circuit_lines}
-use Rattle.circuits.specs.Calls.{read_split, circuit_at, signs_of, count_call_of, circuit_rule, circuit_call_of, GivenFor}
-use Rattle.circuits.specs.declared.Split.{Split}
-use Rattle.circuits.specs.declared.Split.TheVariants as S
+use Rattle.circuits.specs.Calls.{circuit_at, signs_of, count_call_of, circuit_rule, circuit_call_of, GivenFor}
 use Rattle.circuits.specs.declared.Sides.{Sides}
 use Rattle.circuits.proofs.Sources.{made_at}
 use Rattle.circuits.proofs.Signs.{minus_after_plus, masks_low, masks_signs}
 use Rattle.circuits.proofs.Agreement.{circuit_published, published_numbered, numbered_once}
-
--- the case of an answer, from its number or value
-abbrev back_split : Answer Sides → Split
-back_split (gives z) = S.Circuit z
-back_split (refuses n) = S.Refused n
-
-split_back : (r : Split) → back_split (read_split r) ≡ r
-split_back (S.Circuit z) = refl
-split_back (S.Refused n) = refl
 
 -- two that a third one is alike to, or against
 alike-joined : {n : ℕ} {X Y Z : SignVector} → Alike n X Y ⊎ Alike n X (against Y) → Alike n X Z ⊎ Alike n X (against Z) → Alike n Y Z ⊎ Alike n Y (against Z)
@@ -85,11 +76,11 @@ module _ (l : List ℤ) where
 
   -- ---- one answer
 
-  pub count_one : (r r' : Counted) → read_counted r ≡ count_call_of l → read_counted r' ≡ count_call_of l → r ≡ r'
-  count_one r r' = counted_one
+  pub count_one : (r r' : Result ℕ Refusal) → answered r ≡ count_call_of l → answered r' ≡ count_call_of l → r ≡ r'
+  count_one r r' = answered_one
 
-  pub circuit_one : (z : ℕ) (r r' : Split) → read_split r ≡ circuit_call_of l z → read_split r' ≡ circuit_call_of l z → r ≡ r'
-  circuit_one z r r' = one_answer read_split back_split split_back
+  pub circuit_one : (z : ℕ) (r r' : Result Sides Refusal) → answered r ≡ circuit_call_of l z → answered r' ≡ circuit_call_of l z → r ≡ r'
+  circuit_one z r r' = answered_one
 
   -- ---- the sides of a numbered circuit
 

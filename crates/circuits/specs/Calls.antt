@@ -1,6 +1,5 @@
 -- What each public call of this room answers, for every input.
 --
---   read_split                the refusal number or the two sides of each case of the answer of `circuit`; that of `count` is shots' `Counted`
 --   count_call_of l            C, the number of circuits; or 1-4
 --   circuit_call_of l z        the two sides of circuit z, as masks over shots; or 1-4, 12
 --   circuit_at l z, signs_of l z    circuit z, and its signs
@@ -9,19 +8,13 @@
 --
 -- That these are the published circuits: proofs/Promises (`circuit_agrees`, `circuit-given`). Source: document 01, "Circuits".
 use Rattle.std.specs.Prelude.{◌≡◌, ℕ, ◌⊎◌, List, [], ◌∷◌, ◌++◌, length, ℤ, nat_le, slice_index_or}
-use Rattle.algebra.specs.Answer.{Answer, gives, refuses, Rule, chain}
+use Rattle.algebra.specs.Answer.{Answer, gives, Rule, chain}
 use Rattle.matroid.specs.Circuits.{SignVector, Alike, against}
 use Rattle.shots.specs.Patch.{count_of}
 use Rattle.shots.specs.Tests.{shot_rules}
 use Rattle.circuits.specs.Sides.{TwoSides, masks, sign_in, mask_signs}
 use Rattle.circuits.specs.Numbering.{circuits_of}
-use Rattle.circuits.specs.declared.Split.{Split}
-use Rattle.circuits.specs.declared.Split.TheVariants as S
 use Rattle.circuits.specs.declared.Sides.{Sides}
-
-abbrev pub read_split : Split → Answer Sides
-read_split (S.Circuit z) = gives z
-read_split (S.Refused n) = refuses n
 
 -- the circuit of number z; one without shots past the last
 abbrev pub circuit_at : List ℤ → ℕ → TwoSides

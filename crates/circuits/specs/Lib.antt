@@ -4,4 +4,3 @@ pub mod Numbering
 pub mod Lines
 pub mod Calls
 pub mod Joined
-pub mod Filled

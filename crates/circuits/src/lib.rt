@@ -7,10 +7,10 @@
 #![tactic(auto)]
 
 ghost use Rattle.std.specs.Prelude.{◌≡◌};
-ghost use Rattle.shots.specs.Calls.{read_counted};
-ghost use Rattle.circuits.specs.Calls.{read_split, count_call_of, circuit_call_of};
+ghost use Rattle.shots.specs.Refusals.{answered};
+ghost use Rattle.circuits.specs.Calls.{count_call_of, circuit_call_of};
 
-use shots::Counted;
+use shots::Refusal;
 
 pub mod kernel;
 mod masks;
@@ -19,45 +19,22 @@ mod masks;
 pub const CIRCUITS_MOST: usize = 330;
 
 // The sides of a circuit, shot i at bit i. The plus side holds the smallest shot.
-#[derive(Clone, Copy)]
+#[derive(Clone, Copy, Debug, Default, PartialEq, Eq)]
 pub struct Sides {
     pub plus: u16,
     pub minus: u16,
 }
 
-#[derive(Clone, Copy)]
-pub enum Split {
-    Circuit(Sides),
-    Refused(u8),
+pub fn count(shots: &[i32]) -> Result<usize, Refusal>
+    ensures { answered result ≡ count_call_of shots.now }
+{
+    shots::accept(shots)?;
+    Ok(kernel::all(shots).len())
 }
 
-pub fn count(shots: &[i32]) -> Counted
-    ensures { read_counted result ≡ count_call_of shots.now }
+pub fn circuit(shots: &[i32], z: usize) -> Result<Sides, Refusal>
+    ensures { answered result ≡ circuit_call_of shots.now z }
 {
-    let refusal = shots::tests::refusal(shots);
-    if refusal != 0 {
-        return Counted::Refused(refusal);
-    }
-    let mut plus = [0u16; CIRCUITS_MOST];
-    let mut minus = [0u16; CIRCUITS_MOST];
-    Counted::Count(kernel::all(shots, &mut plus, &mut minus))
-}
-
-pub fn circuit(shots: &[i32], z: usize) -> Split
-    ensures { read_split result ≡ circuit_call_of shots.now z }
-{
-    let refusal = shots::tests::refusal(shots);
-    if refusal != 0 {
-        return Split::Refused(refusal);
-    }
-    let mut plus = [0u16; CIRCUITS_MOST];
-    let mut minus = [0u16; CIRCUITS_MOST];
-    let count = kernel::all(shots, &mut plus, &mut minus);
-    if count <= z {
-        return Split::Refused(12);
-    }
-    Split::Circuit(Sides {
-        plus: plus[z],
-        minus: minus[z],
-    })
+    shots::accept(shots)?;
+    kernel::all(shots).get(z).copied().ok_or(Refusal::Circuit)
 }

@@ -29,14 +29,15 @@ fn join(z: Sides, i: usize, same: bool) -> Sides
     ensures { result ≡ joined z i same }
 {
     if same {
-        return Sides {
+        Sides {
             plus: z.plus + bit(i),
-            minus: z.minus,
-        };
-    }
-    Sides {
-        plus: z.plus,
-        minus: z.minus + bit(i),
+            ..z
+        }
+    } else {
+        Sides {
+            minus: z.minus + bit(i),
+            ..z
+        }
     }
 }
 

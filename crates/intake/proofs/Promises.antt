@@ -27,6 +27,7 @@ use lib.Seq.{get_or-take}
 use lib.IntN.{ℤ, pos, nat_abs}
 use lib.Ieee.{Float, nan, inf, fin}
 use lib.Ieee.Scale.{finite}
+use Rattle.std.proofs.Common.{Result}
 use Rattle.algebra.specs.Answer.{gives, refuses, Rule, First, Clear, Reflects, holds, fails, Decides}
 use Rattle.algebra.specs.Writing.{wrote}
 use Rattle.algebra.proofs.AnswerLaws.{Unbroken, append_unbroken, unbroken-refusal, decides-append, reflects_iff, reflects-not, reflects-or, reflects_ltb, reflects_eqb}
@@ -37,6 +38,7 @@ use Rattle.shots.specs.Tests.{shape_rules, refusal_of}
 use Rattle.shots.specs.Lines.{shape_lines}
 use Rattle.shots.specs.Calls.{PatchRead, read_patch, patch_given}
 use Rattle.shots.specs.declared.Handed.{Handed}
+use Rattle.shots.specs.declared.refusal.Refusal.{Refusal}
 use Rattle.shots.proofs.Promises.{shots_decided}
 use Rattle.shots.proofs.HandedLaws.{handed_refuses, handed_gives, handed_coordinates, handed-refused, handed_kept, handed-front, patch_one}
 use Rattle.intake.specs.Nearest.{Nearest, whole_of}
@@ -302,8 +304,8 @@ module _ (u : List ℕ) (v : List Float) where
 
 -- ---- one answer
 
-pub take_one : (e : ℕ) (l : List Shot) (n : ℕ) (r r' : Handed) → read_patch r ≡ take_of e l n → read_patch r' ≡ take_of e l n → r ≡ r'
+pub take_one : (e : ℕ) (l : List Shot) (n : ℕ) (r r' : Result Handed Refusal) → read_patch r ≡ take_of e l n → read_patch r' ≡ take_of e l n → r ≡ r'
 take_one e l n r r' = patch_one
 
-pub take_runs_one : (e : ℕ) (u : List ℕ) (v : List Float) (r r' : Handed) → read_patch r ≡ take_runs_of e u v → read_patch r' ≡ take_runs_of e u v → r ≡ r'
+pub take_runs_one : (e : ℕ) (u : List ℕ) (v : List Float) (r r' : Result Handed Refusal) → read_patch r ≡ take_runs_of e u v → read_patch r' ≡ take_runs_of e u v → r ≡ r'
 take_runs_one e u v r r' = patch_one

@@ -8,14 +8,12 @@
 // specs/Lines.antt when a call refuses.
 #![tactic(auto)]
 
-ghost use Rattle.std.specs.Prelude.{◌≡◌, false, pos, take, replicate};
-ghost use Rattle.algebra.specs.Answer.{refuses, refusal};
-ghost use Rattle.shots.specs.Sizes.{coordinates_most};
+ghost use Rattle.std.specs.Prelude.{◌≡◌, false, length};
 ghost use Rattle.shots.specs.Calls.{read_patch};
-ghost use Rattle.intake.specs.Tests.{count_rule, front_rules};
+ghost use Rattle.intake.specs.Tests.{count_rule};
 ghost use Rattle.intake.specs.Calls.{taken_by, take_of, take_runs_of};
 
-use shots::{COORDINATES_MOST, Handed, Patched, SHOTS_LEAST, SHOTS_MOST};
+use shots::{Handed, Refusal, SHOTS_LEAST, SHOTS_MOST};
 
 mod rounding;
 mod runs;
@@ -43,84 +41,41 @@ pub struct Scaled {
     pub north: f64,
 }
 
-fn refused(number: u8) -> Handed
-    ensures { read_patch result ≡ record { answer = refuses number; coordinates = replicate coordinates_most (pos 0) } }
-{
-    Handed {
-        answer: Patched::Refused(number),
-        coordinates: [0; COORDINATES_MOST],
-    }
-}
-
 // Whether a patch has not so many shots.
 fn miscounted(count: usize) -> bool
     ensures { result ≡ (count_rule count).broken }
 {
-    if count < SHOTS_LEAST {
-        return true;
-    }
-    SHOTS_MOST < count
-}
-
-// The number that refuses an edition or a number of shots, 17 or 1, or 0.
-fn unfit(edition: usize, count: usize) -> u8
-    ensures { result ≡ refusal (front_rules edition count) }
-{
-    let no_edition = scaling::is_unknown(edition);
-    let no_patch = miscounted(count);
-    if no_edition {
-        return 17;
-    }
-    if no_patch {
-        return 1;
-    }
-    0
+    count < SHOTS_LEAST || SHOTS_MOST < count
 }
 
 // The shots by a foot's factors, once their number is right.
-fn taken(foot: Foot, shots: [Shot; SHOTS_MOST], count: usize) -> Handed
-    requires { (count_rule count).broken ≡ false }
-    ensures { read_patch result ≡ taken_by foot (count_rule count) (take count shots) count }
+fn taken(foot: Foot, shots: &[Shot]) -> Result<Handed, Refusal>
+    requires { (count_rule (length shots.now)).broken ≡ false }
+    ensures { read_patch result ≡ taken_by foot (count_rule (length shots.now)) shots.now (length shots.now) }
 {
-    let number = turns::refusal(foot, shots, count);
-    if number != 0 {
-        return refused(number);
-    }
-    let coordinates = turns::coordinates(foot, shots, count);
-    let refusal = shots::tests::refusal(&coordinates[..2 * count]);
-    if refusal != 0 {
-        return refused(refusal);
-    }
-    Handed {
-        answer: Patched::Shots(count),
-        coordinates,
-    }
+    let count = shots.len();
+    let coordinates = turns::coordinates(foot, shots)?;
+    shots::accept(&coordinates[..2 * count])?;
+    Ok(Handed { count, coordinates })
 }
 
-pub fn take(edition: usize, shots: [Shot; SHOTS_MOST], count: usize) -> Handed
+pub fn take(edition: usize, shots: [Shot; SHOTS_MOST], count: usize) -> Result<Handed, Refusal>
     ensures { read_patch result ≡ take_of edition shots count }
 {
-    let number = unfit(edition, count);
-    if number != 0 {
-        return refused(number);
+    let foot = scaling::foot_of(edition)?;
+    if miscounted(count) {
+        return Err(Refusal::Count);
     }
-    taken(scaling::foot_of(edition), shots, count)
+    taken(foot, &shots[..count])
 }
 
-pub fn take_runs(edition: usize, units: &[u8], values: &[f64]) -> Handed
+pub fn take_runs(edition: usize, units: &[u8], values: &[f64]) -> Result<Handed, Refusal>
     ensures { read_patch result ≡ take_runs_of edition units.now values.now }
 {
+    let foot = scaling::foot_of(edition)?;
     let count = units.len();
-    let number = unfit(edition, count);
-    if number != 0 {
-        return refused(number);
+    if miscounted(count) || values.len() != 2 * count {
+        return Err(Refusal::Count);
     }
-    if values.len() != 2 * count {
-        return refused(1);
-    }
-    taken(
-        scaling::foot_of(edition),
-        runs::gathered(units, values),
-        count,
-    )
+    taken(foot, &runs::gathered(units, values)[..count])
 }

@@ -15,9 +15,10 @@ fn shot_in(units: &[u8], values: &[f64], i: usize) -> Shot
     let east = values[2 * i];
     let north = values[2 * i + 1];
     if units[i] == 0 {
-        return Shot::Metres(east, north);
+        Shot::Metres(east, north)
+    } else {
+        Shot::Feet(east, north)
     }
-    Shot::Feet(east, north)
 }
 
 // The shots in front of an array.
@@ -26,10 +27,8 @@ pub fn gathered(units: &[u8], values: &[f64]) -> [Shot; SHOTS_MOST]
     ensures { result ≡ wrote (replicate shots_most at_origin) 0 (shots_in units.now values.now) }
 {
     let mut out = [Shot::Metres(0.0, 0.0); SHOTS_MOST];
-    let mut i = 0;
-    while i < units.len() {
-        out[i] = shot_in(units, values, i);
-        i += 1;
+    for (i, shot) in out[..units.len()].iter_mut().enumerate() {
+        *shot = shot_in(units, values, i);
     }
     out
 }

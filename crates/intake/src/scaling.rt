@@ -1,33 +1,26 @@
 // The factors of a shot's unit.
 ghost use Rattle.std.specs.Prelude.{◌≡◌};
-ghost use Rattle.intake.specs.Scaling.{foot_of, scaled_of};
-ghost use Rattle.intake.specs.Tests.{edition_rule};
+ghost use Rattle.shots.specs.Refusals.{answered};
+ghost use Rattle.intake.specs.Scaling.{scaled_of};
+ghost use Rattle.intake.specs.Tests.{foot_in};
 
 use super::{Foot, Scaled, Shot};
+use shots::Refusal;
 
-// Whether there is no such edition.
-pub fn is_unknown(edition: usize) -> bool
-    ensures { result ≡ (edition_rule edition).broken }
+// The US survey foot, 1200 / 3937 of a metre, and the international foot that came in its place, 0.3048 m. There is no other edition.
+pub fn foot_of(edition: usize) -> Result<Foot, Refusal>
+    ensures { answered result ≡ foot_in edition }
 {
-    if edition == 1 {
-        return false;
-    }
-    edition != 2
-}
-
-// The US survey foot, 1200 / 3937 of a metre, and the international foot that came in its place, 0.3048 m.
-pub fn foot_of(edition: usize) -> Foot
-    ensures { result ≡ foot_of edition }
-{
-    if edition == 1 {
-        return Foot {
+    match edition {
+        1 => Ok(Foot {
             times: 1200000.0,
             over: 3937.0,
-        };
-    }
-    Foot {
-        times: 3048.0,
-        over: 10.0,
+        }),
+        2 => Ok(Foot {
+            times: 3048.0,
+            over: 10.0,
+        }),
+        _ => Err(Refusal::Edition),
     }
 }
 

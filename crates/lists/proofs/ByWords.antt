@@ -11,7 +11,7 @@
 --   by-around, by-crossing      the sides of one circuit are inside triples of the list; those of some circuit
 --   by_open                     an edge of exactly one triple that is no border pair
 --   crossed_by, open_by           the two tests as the code's loops make them, over the table of specs/Held
---   refusal_7, refusal_10, refusal_8, refusal_9, refusal_0    the number of the list, test by test
+--   refuses_7, refuses_10, refuses_8, refuses_9, gives_list    the answer, test by test
 --   accepted_solid              an accepted list has nothing past the last rank and no flat triple
 use Rattle.std.specs.Prelude.{◌≡◌, ℕ, ◌*◌, ◌<◌, ◌≤◌, Bool, true, false, not, ◌&&◌, ◌||◌, eqb, ltb, leb, ◌⊎◌, List, length, ℤ}
 use mathlib.Core.Path.{refl, sym, ◌∙◌, ap}
@@ -20,7 +20,7 @@ use mathlib.Core.Bool.{true≢false, not-not}
 use native.Mathlib.Omega.{arith}
 use native.Mathlib.Decide.{dec_lt, ℕ_discrete}
 use borrow.Author.Tests.{leb-true, le-leb, lt-ltb, ltb-true}
-use Rattle.algebra.specs.Answer.{Reflects, refusal}
+use Rattle.algebra.specs.Answer.{Reflects, gives, refuses, chain}
 use Rattle.algebra.specs.Loops.{any}
 use Rattle.algebra.specs.Sets.{is_on, all_on, Within, mask_of}
 use Rattle.algebra.specs.Words.{word_bits, Words, member, both_of, meets_of, inside_of, empty_of, alone_of, row_of}
@@ -37,7 +37,7 @@ use Rattle.circuits.proofs.Sources.{made_at}
 use Rattle.circuits.proofs.Signs.{sides_within}
 use Rattle.triples.specs.Sizes.{word_count}
 use Rattle.triples.specs.Ranks.{triple_count, triple_at}
-use Rattle.lists.specs.Tests.{is_flat, past_last, some_flat, is_empty, sides_in, crosses, crossing, shared, open_at, open_edge, list_refusal_of}
+use Rattle.lists.specs.Tests.{is_flat, past_last, some_flat, is_empty, sides_in, crosses, crossing, shared, open_at, open_edge, list_refusal_of, list_rules}
 use Rattle.triples.specs.Sets.{full_of, holders_of, mask_on, around_of}
 use Rattle.lists.specs.Held.{solid_of, inner_of, plus_row, minus_row, inner_row, AroundPlus, AroundMinus, Inner}
 use Rattle.triples.proofs.RankLaws.{triple_past, triples_few, past_off}
@@ -295,36 +295,36 @@ module _ (l : List ℤ) (w : List ℕ) (few : count_of l ≤ shots_most) (v : Wo
       out : B → A
       out q = let p = q.2.1 in let o = p.2 in (p.0, p.1, (o.0, o.1, lone q.0 o.0 p.0 q.1 q.2.0 o.2))
 
-  -- ---- the number
+  -- ---- the answer
 
   kept : inside_of w (solid_of l) ≡ true → (past_last l w || some_flat l w) ≡ false
   kept e = sym by_solid ∙ ap not e
 
-  pub refusal_7 : inside_of w (solid_of l) ≡ false → 7 ≡ list_refusal_of l w
-  unfolding list_refusal_of refusal
-  refusal_7 e = rw (sym by_solid ∙ ap not e) refl
+  pub refuses_7 : inside_of w (solid_of l) ≡ false → refuses 7 ≡ chain {A = Unit {0}} (list_rules l w) tt
+  unfolding chain
+  refuses_7 e = rw (sym by_solid ∙ ap not e) refl
 
   -- the words hold no flat triple, and are of ranks
   module _ (e : inside_of w (solid_of l) ≡ true) where
     no_past : past_last l w ≡ false
     no_past = (or_parts (past_last l w) (some_flat l w) (kept e)).0
 
-    pub refusal_10 : empty_of w ≡ true → 10 ≡ list_refusal_of l w
-    unfolding list_refusal_of refusal
-    refusal_10 h = rw (kept e, sym (by_empty no_past) ∙ h) refl
+    pub refuses_10 : empty_of w ≡ true → refuses 10 ≡ chain {A = Unit {0}} (list_rules l w) tt
+    unfolding chain
+    refuses_10 h = rw (kept e, sym (by_empty no_past) ∙ h) refl
 
     module _ (t : List ℕ) (count : ℕ) (f : AroundPlus l t) (g : AroundMinus l t) (c : count ≡ length (circuits_of l)) (some : empty_of w ≡ false) where
-      pub refusal_8 : crossed_by w t count ≡ true → 8 ≡ list_refusal_of l w
-      unfolding list_refusal_of refusal
-      refusal_8 h = rw (kept e, sym (by_empty no_past) ∙ some, sym (by-crossing t count f g c) ∙ h) refl
+      pub refuses_8 : crossed_by w t count ≡ true → refuses 8 ≡ chain {A = Unit {0}} (list_rules l w) tt
+      unfolding chain
+      refuses_8 h = rw (kept e, sym (by_empty no_past) ∙ some, sym (by-crossing t count f g c) ∙ h) refl
 
-      pub refusal_9 : Inner l t → crossed_by w t count ≡ false → open_by (count_of l) w t ≡ true → 9 ≡ list_refusal_of l w
-      unfolding list_refusal_of refusal
-      refusal_9 u h k = rw (kept e, sym (by_empty no_past) ∙ some, sym (by-crossing t count f g c) ∙ h, sym (by_open t u) ∙ k) refl
+      pub refuses_9 : Inner l t → crossed_by w t count ≡ false → open_by (count_of l) w t ≡ true → refuses 9 ≡ chain {A = Unit {0}} (list_rules l w) tt
+      unfolding chain
+      refuses_9 u h k = rw (kept e, sym (by_empty no_past) ∙ some, sym (by-crossing t count f g c) ∙ h, sym (by_open t u) ∙ k) refl
 
-      pub refusal_0 : Inner l t → crossed_by w t count ≡ false → open_by (count_of l) w t ≡ false → 0 ≡ list_refusal_of l w
-      unfolding list_refusal_of refusal
-      refusal_0 u h k = rw (kept e, sym (by_empty no_past) ∙ some, sym (by-crossing t count f g c) ∙ h, sym (by_open t u) ∙ k) refl
+      pub gives_list : Inner l t → crossed_by w t count ≡ false → open_by (count_of l) w t ≡ false → gives tt ≡ chain {A = Unit {0}} (list_rules l w) tt
+      unfolding chain
+      gives_list u h k = rw (kept e, sym (by_empty no_past) ∙ some, sym (by-crossing t count f g c) ∙ h, sym (by_open t u) ∙ k) refl
 
 pub accepted_solid : (l : List ℤ) (w : List ℕ) → list_refusal_of l w ≡ 0 → (past_last l w ≡ false) × (some_flat l w ≡ false)
 unfolding list_refusal_of

@@ -11,9 +11,9 @@
 use Rattle.std.specs.Prelude.{◌≡◌, ℕ, ◌<◌, false, eqb, ◌↔◌, List, ℤ}
 use mathlib.Core.Path.{refl, sym, ◌∙◌}
 use mathlib.Core.Bool.{true≢false}
-use Rattle.algebra.specs.Answer.{Answer, gives, refuses, refusal, First, Clear, Reflects, Decides}
+use Rattle.algebra.specs.Answer.{gives, refuses, refusal, First, Clear, Reflects, Decides}
 use Rattle.algebra.specs.Words.{member}
-use Rattle.algebra.proofs.AnswerLaws.{one_answer, chain_refuses_upon, chain_gives_upon, clear-append, clear-refusal, reflects_iff, reflects_eqb}
+use Rattle.algebra.proofs.AnswerLaws.{chain_refuses_upon, chain_gives_upon, clear-append, clear-refusal, reflects_iff, reflects_eqb}
 use Rattle.matroid.specs.Triangulations.{Triangulation}
 use Rattle.shots.specs.Coordinates.{patch_of}
 use Rattle.shots.specs.Patch.{count_of}
@@ -23,20 +23,13 @@ use Rattle.shots.proofs.Promises.{shots_decided, shots_kept}
 use Rattle.triples.specs.Ranks.{triple_count}
 use Rattle.lists.specs.Tests.{list_rules, list_refusal_of}
 use Rattle.lists.specs.Lines.{Listed, PastLast, list_lines, test_lines, Accepted}
-use Rattle.lists.specs.Calls.{read_tested, test_of}
-use Rattle.lists.specs.declared.Tested.{Tested}
-use Rattle.lists.specs.declared.Tested.TheVariants as T
+use Rattle.std.proofs.Common.{Result}
+use Rattle.shots.specs.Refusals.{answered}
+use Rattle.shots.specs.declared.refusal.Refusal.{Refusal}
+use Rattle.shots.proofs.RefusalLaws.{answered_one}
+use Rattle.lists.specs.Calls.{test_of}
 use Rattle.lists.proofs.Agreement.{list_decided, accepted_iff_triangulation}
 use Rattle.lists.proofs.Chains.{list_numbered}
-
--- the case of an answer, from its number
-abbrev tested_as : Answer (Unit {0}) → Tested
-tested_as (gives v) = T.Accepted
-tested_as (refuses n) = T.Refused n
-
-tested_back : (r : Tested) → tested_as (read_tested r) ≡ r
-tested_back T.Accepted = refl
-tested_back (T.Refused n) = refl
 
 pub accepted_decided : (l : List ℤ) → refusal_of l ≡ 0 → (w : List ℕ) → Reflects (Accepted l w) (eqb (list_refusal_of l w) 0)
 unfolding list_refusal_of
@@ -69,8 +62,8 @@ module _ (l : List ℤ) (w : List ℕ) where
   pub tested_right : test_of l w ≡ gives tt → refusal_of l ≡ 0
   tested_right e = (shots_kept l).0 (test_accepts.0 e).0
 
-  pub test_one : (r r' : Tested) → read_tested r ≡ test_of l w → read_tested r' ≡ test_of l w → r ≡ r'
-  test_one r r' = one_answer read_tested tested_as tested_back
+  pub test_one : (r r' : Result (Unit {0}) Refusal) → answered r ≡ test_of l w → answered r' ≡ test_of l w → r ≡ r'
+  test_one r r' = answered_one
 
   pub never_empty : ((r : ℕ) → r < triple_count (count_of l) → member w r ≡ false) → test_of l w ≡ gives tt → ⊥
   never_empty h e = let (_, (r, k, m, _)) = (test_accepts.0 e).2.some in true≢false (sym m ∙ h r k)

@@ -8,21 +8,25 @@
 --   Inner l t           the row of each pair holds its inner triples; InnerBelow l n t: for the pairs below n
 --   AroundPlus l t, AroundMinus l t    the rows of circuit z hold the triples around its plus side, around its minus side
 --   Prepared l t        all of it: with the holders of shot k at row k, and the triples that are not flat
---   Sided l p m         place z of p and of m holds the masks of the sides of circuit z
+--   sides_at zs z       the sides of number z
+--   Around n zs k t     the rows of the first k of the sides zs hold the triples around them
+--   HeldOf l h          what is worked out of the patch l: the masks of the sides of all its circuits, and its table
 --
 -- That tests by these sets are those of document 01: proofs/ByWords.
-use Rattle.std.specs.Prelude.{◌≡◌, ℕ, ◌+◌, ◌*◌, ◌<◌, not, ◌&&◌, List, length, ℤ, slice_index}
+use Rattle.std.specs.Prelude.{◌≡◌, ℕ, ◌+◌, ◌*◌, ◌<◌, not, ◌&&◌, List, length, map, ℤ, slice_index_or}
 use Rattle.algebra.specs.Sets.{is_on}
 use Rattle.algebra.specs.Words.{sift, row_of}
 use Rattle.shots.specs.Sizes.{shots_most}
 use Rattle.shots.specs.Patch.{count_of, border_of}
 use Rattle.circuits.specs.Sizes.{circuits_most}
+use Rattle.circuits.specs.declared.Sides.{Sides}
 use Rattle.circuits.specs.Sides.{masks}
 use Rattle.circuits.specs.Numbering.{circuits_of}
 use Rattle.circuits.specs.Calls.{circuit_at}
 use Rattle.triples.specs.Sizes.{word_count}
 use Rattle.triples.specs.Ranks.{triple_at}
 use Rattle.triples.specs.Sets.{full_of, around_of, Holding}
+use Rattle.lists.specs.declared.kernel.Held.{Held}
 use Rattle.lists.specs.Tests.{is_flat}
 
 unfoldable pub solid_of : List ℤ → List ℕ
@@ -54,6 +58,9 @@ solid_row = inner_first + shots_most * shots_most
 abbrev pub held_rows : ℕ
 held_rows = solid_row + 1
 
+abbrev pub sides_at : List Sides → ℕ → Sides
+sides_at zs z = slice_index_or zs z (record { plus = 0; minus = 0 })
+
 abbrev pub AroundPlus : List ℤ → List ℕ → Type 0
 AroundPlus l t = (z : ℕ) → z < length (circuits_of l) → row_of word_count t (plus_row z) ≡ around_of (count_of l) (masks (circuit_at l z)).plus (full_of (count_of l))
 
@@ -73,7 +80,13 @@ pub record Prepared (l : List ℤ) (held : List ℕ) : Type 0 where
   pub edges : Inner l held
   pub solid : row_of word_count held solid_row ≡ solid_of l
 
--- ---- the masks of the sides themselves
+-- ---- the table, and the circuits themselves
 
-abbrev pub Sided : List ℤ → List ℕ → List ℕ → Type 0
-Sided l p m = (z : ℕ) → z < length (circuits_of l) → (slice_index p z ≡ (masks (circuit_at l z)).plus) × (slice_index m z ≡ (masks (circuit_at l z)).minus)
+abbrev pub Around : ℕ → List Sides → ℕ → List ℕ → Type 0
+Around n zs k t =
+    (z : ℕ) → z < k
+    → (row_of word_count t (plus_row z) ≡ around_of n (sides_at zs z).plus (full_of n)) × (row_of word_count t (minus_row z) ≡ around_of n (sides_at zs z).minus (full_of n))
+
+pub record HeldOf (l : List ℤ) (h : Held) : Type 0 where
+  pub circuits : h.circuits.items ≡ map masks (circuits_of l)
+  pub table : Prepared l h.rows

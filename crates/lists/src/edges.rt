@@ -10,6 +10,7 @@ ghost use Rattle.triples.specs.Sets.{words_of, SameBelow, Written, Holding};
 ghost use Rattle.lists.specs.Held.{held_rows, inner_first, inner_from, inner_of, inner_row, Inner};
 
 use super::INNER_FIRST;
+use super::kernel::Held;
 use shots::SHOTS_MOST;
 use triples::{Triples, rows, sets};
 
@@ -19,21 +20,9 @@ fn inner(shots: &[i32], held: &[u64], i: usize, j: usize) -> Triples
     ensures { words_of result ≡ inner_of shots.now i j }
 {
     if shots::pairs::is_border(shots, i, j) {
-        return sets::none();
-    }
-    sets::both(rows::row_at(held, i), rows::row_at(held, j))
-}
-
-// The rows of the pairs with j as the larger shot.
-fn fill_with(shots: &[i32], j: usize, held: &mut [u64])
-    requires { (j < count_of shots.now) × Near shots.now × (count_of shots.now ≤ shots_most) × (word_count * held_rows ≤ length held.old) × Holding (count_of shots.now) held.old }
-    ensures { Written (inner_from j) j (λ i. inner_of shots.now i j) held.old held.new }
-{
-    let mut i = 0;
-    while i < j {
-        let inner = inner(shots, held, i, j);
-        rows::put_row(held, INNER_FIRST + SHOTS_MOST * j + i, inner);
-        i += 1;
+        sets::none()
+    } else {
+        sets::both(rows::row_at(held, i), rows::row_at(held, j))
     }
 }
 
@@ -43,10 +32,11 @@ pub fn fill(shots: &[i32], held: &mut [u64])
     ensures { (length held.new ≡ length held.old) × Inner shots.now held.new × SameBelow inner_first held.old held.new }
 {
     let n = shots.len() / 2;
-    let mut j = 0;
-    while j < n {
-        fill_with(shots, j, held);
-        j += 1;
+    for j in 0..n {
+        for i in 0..j {
+            let inner = inner(shots, held, i, j);
+            rows::put_row(held, INNER_FIRST + SHOTS_MOST * j + i, inner);
+        }
     }
 }
 
@@ -55,14 +45,9 @@ fn open_with(held: &[u64], j: usize, list: Triples) -> bool
     requires { (j < shots_most) × (word_count * held_rows ≤ length held.now) }
     ensures { result ≡ any j (λ i. alone_of (both_of (words_of list) (row_of word_count held.now (inner_row i j)))) }
 {
-    let mut i = 0;
-    while i < j {
-        if sets::alone(sets::both(list, rows::row_at(held, INNER_FIRST + SHOTS_MOST * j + i))) {
-            return true;
-        }
-        i += 1;
-    }
-    false
+    (0..j).any(|i| {
+        sets::alone(sets::both(list, rows::row_at(held, INNER_FIRST + SHOTS_MOST * j + i)))
+    })
 }
 
 // Whether an edge of the list is open.
@@ -70,12 +55,5 @@ pub fn open(held: &[u64], n: usize, list: Triples) -> bool
     requires { (n ≤ shots_most) × (word_count * held_rows ≤ length held.now) }
     ensures { result ≡ any n (λ j. any j (λ i. alone_of (both_of (words_of list) (row_of word_count held.now (inner_row i j))))) }
 {
-    let mut j = 0;
-    while j < n {
-        if open_with(held, j, list) {
-            return true;
-        }
-        j += 1;
-    }
-    false
+    (0..n).any(|j| open_with(held, j, list))
 }

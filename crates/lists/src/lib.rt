@@ -7,14 +7,18 @@
 
 ghost use Rattle.std.specs.Prelude.{◌≡◌};
 ghost use Rattle.triples.specs.Sets.{words_of};
-ghost use Rattle.lists.specs.Calls.{read_tested, test_of};
+ghost use Rattle.shots.specs.Refusals.{answered};
+ghost use Rattle.lists.specs.Calls.{test_of};
 
+use arrayvec::ArrayVec;
 use circuits::CIRCUITS_MOST;
-use shots::SHOTS_MOST;
+use shots::{Refusal, SHOTS_MOST};
 use triples::{Triples, WORDS};
 
 pub mod edges;
 pub mod kernel;
+
+use kernel::Held;
 
 // What a test reads is worked out once, into one table of sets of triples. Its rows: those that hold shot k, from row 0 on; around the plus side of circuit z; around the minus side;
 // the inner triples of each pair; and one row for the triples that are not flat.
@@ -30,26 +34,14 @@ pub const HELD_ROWS: usize = SOLID_ROW + 1;
 
 pub const HELD_WORDS: usize = WORDS * HELD_ROWS;
 
-#[derive(Clone, Copy)]
-pub enum Tested {
-    Accepted,
-    Refused(u8),
-}
-
-pub fn test(shots: &[i32], list: Triples) -> Tested
-    ensures { read_tested result ≡ test_of shots.now (words_of list) }
+pub fn test(shots: &[i32], list: Triples) -> Result<(), Refusal>
+    ensures { answered result ≡ test_of shots.now (words_of list) }
 {
-    let refusal = shots::tests::refusal(shots);
-    if refusal != 0 {
-        return Tested::Refused(refusal);
-    }
-    let mut plus = [0u16; CIRCUITS_MOST];
-    let mut minus = [0u16; CIRCUITS_MOST];
-    let mut held = [0u64; HELD_WORDS];
-    let count = kernel::prepare(shots, &mut plus, &mut minus, &mut held);
-    let number = kernel::refusal(shots, &held, count, list);
-    if number != 0 {
-        return Tested::Refused(number);
-    }
-    Tested::Accepted
+    shots::accept(shots)?;
+    let mut held = Held {
+        circuits: ArrayVec::new(),
+        rows: [0; HELD_WORDS],
+    };
+    kernel::prepare(shots, &mut held);
+    kernel::accept(shots, &held, list)
 }

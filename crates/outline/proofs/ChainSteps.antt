@@ -2,19 +2,17 @@
 --
 --   chain_at_last, chain_goes_on    a chain from its last shot on, and from another one
 --   chain_short     a chain has at most so many shots as it may have
---   Coming l north n out count p    what is still to come, from p on, makes of the array out what the whole chain makes of an empty one; so many shots are there
+--   Coming l north n out k p    the k shots of out, and what is still to come from p on, are the whole chain
 --   coming_all, coming_more, coming_last, coming_none     before the first shot, behind one, behind the last, and where all n are there
 use mathlib.Core.Path.{◌≡◌, refl, sym, ◌∙◌, ap}
 use mathlib.Core.Bool.{Bool, true, false, cond}
-use mathlib.Core.List.{List, [], ◌∷◌}
+use mathlib.Core.List.{List, [], ◌∷◌, ◌++◌, append-nil, append_assoc}
 use Prim.Native.Nat.{ℕ, zero, suc, ◌+◌, ◌-◌, ◌≤◌, ◌<◌}
 use native.Mathlib.Omega.{arith}
 use borrow.Author.Tests.{eq-eqb, ne_eqb}
 use lib.Dec.{eqb}
 use lib.IntN.{ℤ}
-use lib.ListN.{length, set, replicate}
-use Rattle.algebra.specs.Writing.{wrote}
-use Rattle.shots.specs.Sizes.{shots_most}
+use lib.ListN.{length, length-append}
 use Rattle.shots.specs.Patch.{count_of}
 use Rattle.outline.specs.Wrapping.{next_of, first_of, chain_from, chain_of}
 
@@ -44,39 +42,31 @@ module _ (l : List ℤ) (north : Bool) where
 
   -- ---- as it is written
 
-  abbrev Whole : List ℕ → ℕ → Type 0
-  Whole out count = (out ≡ wrote (replicate shots_most 0) 0 (chain_of l north)) × (count ≡ length (chain_of l north))
-
   abbrev pub Coming : ℕ → List ℕ → ℕ → ℕ → Type 0
-  Coming n out count p = Whole (wrote out count (chain_from l north (n - count) p)) (count + length (chain_from l north (n - count) p))
+  Coming n out k p = (out ++ chain_from l north (n - k) p ≡ chain_of l north) × (length out ≡ k)
 
-  pub coming_all : (p : ℕ) → p ≡ first_of l → Coming (count_of l) (replicate shots_most 0) 0 p
+  pub coming_all : (p : ℕ) {out : List ℕ} → p ≡ first_of l → out ≡ [] → Coming (count_of l) out 0 p
   unfolding chain_of
-  coming_all p h =
-      let m : count_of l - 0 ≡ count_of l = omega arith in
-      let e : chain_from l north (count_of l - 0) p ≡ chain_from l north (count_of l) (first_of l) = λ k. chain_from l north (m k) (h k) in
-      (ap (wrote (replicate shots_most 0) 0) e, omega (arith, ap length e))
+  coming_all p h e = let m : count_of l - 0 ≡ count_of l = omega arith in (λ i. e i ++ chain_from l north (m i) (h i), ap length e)
 
-  module _ (n : ℕ) (out : List ℕ) (count p : ℕ) (h : Coming n out count p) where
-    pub coming_none : n ≤ count → Whole out count
-    unfolding wrote chain_from
-    coming_none k = let e : n - count ≡ 0 = omega arith in
-        (sym (ap (λ (m : ℕ). wrote out count (chain_from l north m p)) e) ∙ h.0, omega (arith, h.1, ap (λ (m : ℕ). length (chain_from l north m p)) e))
+  module _ (n : ℕ) (out : List ℕ) (k p : ℕ) (h : Coming n out k p) where
+    pub coming_none : n ≤ k → out ≡ chain_of l north
+    unfolding chain_from
+    coming_none m = let e : n - k ≡ 0 = omega arith in sym (append-nil out) ∙ ap (λ (j : ℕ). out ++ chain_from l north j p) (sym e) ∙ h.0
 
-    module _ (k : count < n) where
-      more : n - count ≡ suc (n - (count + 1))
+    module _ (m : k < n) {out' : List ℕ} (w : out' ≡ out ++ p ∷ []) where
+      more : n - k ≡ suc (n - (k + 1))
       more = omega arith
 
       -- the chain from p on, as its first shot and the others
-      begun : {s : List ℕ} → chain_from l north (suc (n - (count + 1))) p ≡ p ∷ s → Whole (wrote (set out count p) (count + 1) s) (count + 1 + length s)
-      unfolding wrote
-      begun {s} e =
-          let q = ap (λ (m : ℕ). chain_from l north m p) more ∙ e in
-          (sym (ap (wrote out count) q) ∙ h.0, omega (arith, h.1, ap length q))
+      begun : {s : List ℕ} → chain_from l north (suc (n - (k + 1))) p ≡ p ∷ s → out' ++ s ≡ chain_of l north
+      begun {s} e = ap (λ (o : List ℕ). o ++ s) w ∙ append_assoc out (p ∷ []) s ∙ ap (λ (t : List ℕ). out ++ t) (sym e ∙ ap (λ (j : ℕ). chain_from l north j p) (sym more)) ∙ h.0
 
-      pub coming_last : next_of l north p ≡ p → Whole (set out count p) (count + 1)
-      unfolding wrote
-      coming_last e = let (a, b) = begun (chain_at_last (n - (count + 1)) p e) in (a, omega (arith, b))
+      pub coming_last : (q : ℕ) → q ≡ next_of l north p → q ≡ p → out' ≡ chain_of l north
+      coming_last q e i = sym (append-nil out') ∙ begun (chain_at_last (n - (k + 1)) p (sym e ∙ i))
 
-      pub coming_more : (q : ℕ) → q ≡ next_of l north p → (q ≡ p → ⊥) → Coming n (set out count p) (count + 1) q
-      coming_more q e ne = begun (chain_goes_on (n - (count + 1)) p (λ z. ne (e ∙ z)) ∙ ap (λ (k : ℕ). p ∷ chain_from l north (n - (count + 1)) k) (sym e))
+      pub coming_more : (q : ℕ) → q ≡ next_of l north p → (q ≡ p → ⊥) → Coming n out' (k + 1) q
+      coming_more q e ne = (
+        ap (λ (j : ℕ). out' ++ chain_from l north (n - (k + 1)) j) e ∙ begun (chain_goes_on (n - (k + 1)) p (λ z. ne (e ∙ z))),
+        omega (arith, h.1, ap length w, length-append out (p ∷ [])),
+      )

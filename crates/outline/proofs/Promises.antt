@@ -12,6 +12,7 @@ use mathlib.Core.Logic.{◌⊎◌, inl, inr, ⊎_elim, ◌↔◌}
 use mathlib.Core.List.{List, [], ◌∷◌, ◌++◌}
 use mathlib.Core.Bool.{Bool, not, cond}
 use Prim.Native.Nat.{ℕ, ◌≤◌, ◌<◌}
+use Rattle.std.proofs.Common.{Result}
 use native.Mathlib.Omega.{arith}
 use native.Mathlib.Decide.{dec_lt}
 use borrow.Author.Tests.{le-leb, lt-leb}
@@ -20,19 +21,19 @@ use lib.ListN.{length, take, drop, length-append}
 use lib.Seq.{take_at}
 use Rattle.algebra.specs.Answer.{Answer, gives, refuses, First, Clear, Reflects, Decides}
 use Rattle.algebra.specs.Writing.{buffer_with, NoRoom}
-use Rattle.algebra.proofs.AnswerLaws.{chain_refuses, chain_gives, clear-append, decides-append, one_answer, reflects_iff, reflects-not, reflects-and, reflects_leb}
+use Rattle.algebra.proofs.AnswerLaws.{chain_refuses, chain_gives, clear-append, decides-append, reflects_iff, reflects-not, reflects-and, reflects_leb}
 use Rattle.algebra.proofs.WritingLaws.{wrote-front}
 use Rattle.shots.specs.Tests.{shot_rules}
 use Rattle.shots.specs.Lines.{shot_lines}
+use Rattle.shots.specs.declared.refusal.Refusal.{Refusal}
 use Rattle.shots.proofs.Promises.{shots_decided}
+use Rattle.shots.proofs.RefusalLaws.{answered_one}
 use Rattle.outline.specs.Wrapping.{south_of, north_of}
-use Rattle.outline.specs.Calls.{read_outlined, Outlining, outlined_in, room_of, rooms_rule, lengths_of, chains_of, front_bytes, buffer_for, length_for, chain_for, part_of}
+use Rattle.outline.specs.Calls.{Outlining, outlined_in, room_of, rooms_rule, lengths_of, chains_of, front_bytes, buffer_for, length_for, chain_for, part_of}
 use Rattle.outline.specs.Lines.{chains_lines}
 use Rattle.outline.specs.declared.Facing.{Facing}
 use Rattle.outline.specs.declared.Facing.TheVariants as F
 use Rattle.outline.specs.declared.Lengths.{Lengths}
-use Rattle.outline.specs.declared.Outlined.{Outlined}
-use Rattle.outline.specs.declared.Outlined.TheVariants as O
 
 -- ---- chains
 
@@ -120,20 +121,12 @@ part_chains f l s t k e = go f
     go F.South = (λ i. front_bytes (sym clear.1 i).south (both.0 i)) ∙ fits (south_of l) _
     go F.North = (λ i. front_bytes (sym clear.1 i).north (both.1 i)) ∙ fits (north_of l) _
 
--- ---- one end: the reading can be undone
+-- ---- one end
 
-abbrev outlined_as : Answer Lengths → Outlined
-outlined_as (gives k) = O.Chains k
-outlined_as (refuses n) = O.Refused n
-
-outlined_back : (r : Outlined) → outlined_as (read_outlined r) ≡ r
-outlined_back (O.Chains k) = refl
-outlined_back (O.Refused n) = refl
-
-pub chains_one : (l : List ℤ) (s t u u' v v' : List ℕ) (r r' : Outlined) → outlined_in r u v ≡ chains_of l s t → outlined_in r' u' v' ≡ chains_of l s t → (r ≡ r') × (u ≡ u') × (v ≡ v')
+pub chains_one : (l : List ℤ) (s t u u' v v' : List ℕ) (r r' : Result Lengths Refusal) → outlined_in r u v ≡ chains_of l s t → outlined_in r' u' v' ≡ chains_of l s t → (r ≡ r') × (u ≡ u') × (v ≡ v')
 chains_one l s t u u' v v' r r' p q =
     let e = p ∙ sym q in
-    (one_answer read_outlined outlined_as outlined_back (ap (λ (y : Outlining). y.answer) p) (ap (λ (y : Outlining). y.answer) q), ap (λ (y : Outlining). y.south) e, ap (λ (y : Outlining). y.north) e)
+    (answered_one (ap (λ (y : Outlining). y.answer) p) (ap (λ (y : Outlining). y.answer) q), ap (λ (y : Outlining). y.south) e, ap (λ (y : Outlining). y.north) e)
 
 pub part_one : (f : Facing) (s t : List ℕ) (k : Lengths) {r r' : List ℕ} → r ≡ part_of f s t k → r' ≡ part_of f s t k → r ≡ r'
 part_one f s t k p q = p ∙ sym q

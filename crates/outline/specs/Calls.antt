@@ -1,9 +1,9 @@
 -- What each public call of this room answers, and all that it leaves, for every input: its contract is an equation with one of these.
 --
---   read_outlined         the refusal number or the two lengths of each case of the answer
 --   Outlining            the answer of `chains`, and the two buffers, whole; `outlined_in`: of what the code leaves
 --   room_of c d s t       the buffer s has room for the chain c, and t for d
 --   rooms_rule l s t      11: the buffer s is shorter than the south chain, or t than the north chain
+--   fill_of c d s t       what the writing of both chains answers: done, or 11
 --   lengths_of l          the lengths of the two chains
 --   outlined_of l s t     the answer of `chains`: the lengths; or 1-4, 11
 --   chains_of l s t       the two chains at the front of the buffers s and t, and their lengths; or 1-4, 11, and both buffers as they were
@@ -12,31 +12,30 @@
 --   part_of f s t k       the part of the buffer asked for that has its length of k; none where that exceeds it
 --
 -- Source: document 02, E5.
-use Rattle.std.specs.Prelude.{Bool, not, cond, ◌&&◌, List, [], ◌∷◌, ◌++◌, ℕ, leb, length, take, ℤ}
-use Rattle.algebra.specs.Answer.{Answer, gives, refuses, Rule, chain}
+use Rattle.std.specs.Prelude.{Bool, not, cond, ◌&&◌, List, [], ◌∷◌, ◌++◌, ℕ, leb, length, take, ℤ, Result}
+use Rattle.algebra.specs.Answer.{Answer, Rule, chain}
 use Rattle.algebra.specs.Writing.{buffer_with}
 use Rattle.shots.specs.Tests.{shot_rules}
+use Rattle.shots.specs.Refusals.{answered}
+use Rattle.shots.specs.declared.refusal.Refusal.{Refusal}
 use Rattle.outline.specs.Wrapping.{south_of, north_of}
 use Rattle.outline.specs.declared.Facing.{Facing}
 use Rattle.outline.specs.declared.Facing.TheVariants as F
 use Rattle.outline.specs.declared.Lengths.{Lengths}
-use Rattle.outline.specs.declared.Outlined.{Outlined}
-use Rattle.outline.specs.declared.Outlined.TheVariants as O
-
-abbrev pub read_outlined : Outlined → Answer Lengths
-read_outlined (O.Chains k) = gives k
-read_outlined (O.Refused n) = refuses n
 
 pub record Outlining : Type 0 where
   pub answer : Answer Lengths
   pub south : List ℕ
   pub north : List ℕ
 
-abbrev pub outlined_in : Outlined → List ℕ → List ℕ → Outlining
-outlined_in r s t = record { answer = read_outlined r; south = s; north = t }
+abbrev pub outlined_in : Result Lengths Refusal → List ℕ → List ℕ → Outlining
+outlined_in r s t = record { answer = answered r; south = s; north = t }
 
 unfoldable pub room_of : List ℕ → List ℕ → List ℕ → List ℕ → Bool
 room_of c d s t = leb (length c) (length s) && leb (length d) (length t)
+
+abbrev pub fill_of : List ℕ → List ℕ → List ℕ → List ℕ → Answer (Unit {0})
+fill_of c d s t = chain (record { number = 11; broken = not (room_of c d s t) } ∷ []) tt
 
 abbrev pub rooms_rule : List ℤ → List ℕ → List ℕ → Rule
 rooms_rule l s t = record { number = 11; broken = not (room_of (south_of l) (north_of l) s t) }

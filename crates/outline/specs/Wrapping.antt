@@ -1,6 +1,7 @@
 -- The two chains of a patch, as they are found: from the first shot on, each time the shot that no other one ahead passes, as a string is wrapped around posts.
 -- b is true for the north chain and false for the south chain.
 --
+--   is_north f             the north chain is asked for
 --   first_of l             the leftmost shot, the lowest of equals
 --   outer_of b f s         what has the sign s is on the outer side of two neighbours: on the right of the south chain, on the left of the north chain; on their line where f says that it is farther
 --   passes_of l b p q k    shot k comes behind p rather than q: it is ahead of p, and on the outer side of p and q
@@ -14,6 +15,12 @@ use Rattle.std.specs.Prelude.{Bool, true, false, not, cond, ◌&&◌, List, [], 
 use Rattle.algebra.specs.Loops.{fold}
 use Rattle.algebra.specs.Sign.{Sign, minus, nought, plus}
 use Rattle.shots.specs.Patch.{count_of, orient_of, before_of}
+use Rattle.outline.specs.declared.Facing.{Facing}
+use Rattle.outline.specs.declared.Facing.TheVariants as F
+
+abbrev pub is_north : Facing → Bool
+is_north F.South = false
+is_north F.North = true
 
 unfoldable pub first_of : List ℤ → ℕ
 first_of l = fold (λ k q. cond (before_of l k q) k q) 0 (count_of l)

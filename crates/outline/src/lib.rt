@@ -13,50 +13,33 @@ ghost use Rattle.outline.specs.Calls.{outlined_in, chains_of, part_of};
 mod buffers;
 mod wrapping;
 
+use shots::Refusal;
+
 // How many shots each chain has.
-#[derive(Clone, Copy)]
+#[derive(Clone, Copy, Debug, PartialEq, Eq)]
 pub struct Lengths {
     pub south: usize,
     pub north: usize,
 }
 
-#[derive(Clone, Copy)]
-pub enum Outlined {
-    Chains(Lengths),
-    Refused(u8),
-}
-
 // Which of the two chains is asked for.
-#[derive(Clone, Copy)]
+#[derive(Clone, Copy, Debug, PartialEq, Eq)]
 pub enum Facing {
     South,
     North,
 }
 
-pub fn chains(shots: &[i32], south: &mut [u8], north: &mut [u8]) -> Outlined
+pub fn chains(shots: &[i32], south: &mut [u8], north: &mut [u8]) -> Result<Lengths, Refusal>
     ensures { outlined_in result south.new north.new ≡ chains_of shots.now south.old north.old }
 {
-    let refusal = shots::tests::refusal(shots);
-    if refusal != 0 {
-        return Outlined::Refused(refusal);
-    }
-    let below = wrapping::chain(shots, false);
-    let above = wrapping::chain(shots, true);
-    let lower = below.at;
-    let upper = above.at;
-    let lengths = Lengths {
-        south: below.count,
-        north: above.count,
-    };
-    if buffers::fill(
-        south,
-        north,
-        &lower[..lengths.south],
-        &upper[..lengths.north],
-    ) {
-        return Outlined::Chains(lengths);
-    }
-    Outlined::Refused(11)
+    shots::accept(shots)?;
+    let below = wrapping::chain(shots, Facing::South);
+    let above = wrapping::chain(shots, Facing::North);
+    buffers::fill(south, north, &below, &above)?;
+    Ok(Lengths {
+        south: below.len(),
+        north: above.len(),
+    })
 }
 
 // The part that `chains` filled, where `lengths` is what it answered; empty where the length exceeds its buffer.

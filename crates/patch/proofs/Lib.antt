@@ -1,3 +1,2 @@
-pub mod ReturnLaws
 pub mod Promises
 pub mod OneReturn

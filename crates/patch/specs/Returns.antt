@@ -7,6 +7,7 @@
 --   south_at, north_at     the same of the lengths of two chains, each at a place of its own
 --   plus_at, minus_at      the same of the two sides of a circuit
 --   done_at d a           the lent flag, that held d: 1 where the walk is done, 0 where a step or run was made
+--   done_flag p           what a step or run that is not refused writes there
 --   Left                 what a walk's call leaves with its number: the record and the whole table
 --   left_by, left_of       the same, from a number and the lent places; from what the walk's definition lands in
 --   start_called          what a start lands in, from the words of the list
@@ -19,6 +20,8 @@ use Rattle.outline.specs.declared.Lengths.{Lengths}
 use Rattle.circuits.specs.declared.Sides.{Sides}
 use Rattle.walks.specs.Calls.{ground_of, read_walk}
 use Rattle.walks.specs.declared.Walk.{Walk}
+use Rattle.walks.specs.declared.Progress.{Progress}
+use Rattle.walks.specs.declared.Progress.TheVariants as P
 
 abbrev pub number_of : {A : Type 0} → Answer A → ℕ
 number_of (gives v) = 0
@@ -52,6 +55,11 @@ minus_at x (gives z) = z.minus
 minus_at x (refuses n) = x
 
 -- ---- the walk
+
+-- the lent flag: 1 where the walk is done
+abbrev pub done_flag : Progress → ℕ
+done_flag P.Made = 0
+done_flag P.Done = 1
 
 abbrev pub done_at : ℕ → Answer Reply → ℕ
 done_at d (gives made) = 0

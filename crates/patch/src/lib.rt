@@ -33,18 +33,15 @@ ghost use Rattle.lists.specs.Calls.{test_of};
 ghost use Rattle.surfaces.specs.Calls.{placing_of, flip_of};
 ghost use Rattle.walks.specs.Calls.{step_call_of, run_call_of};
 ghost use Rattle.records.specs.Calls.{read_patch_of, write_patch_of, read_surface_of, write_surface_of};
-ghost use Rattle.patch.specs.Returns.{number_of, left_at, beside_at, south_at, north_at, plus_at, minus_at, done_at, left_by, left_of, start_called};
+ghost use Rattle.patch.specs.Returns.{number_of, left_at, beside_at, south_at, north_at, plus_at, minus_at, done_at, left_by, left_of, start_called, done_flag};
 
-use circuits::Split;
-use lists::Tested;
-use outline::Outlined;
-use records::Written;
-use shots::{Accepted, COORDINATES_MOST, Measured, Oriented, Patched, SHOTS_MOST};
-use surfaces::Surface;
-use triples::{WORDS, rows};
-use walks::Walk;
+use shots::{COORDINATES_MOST, SHOTS_MOST};
+use triples::{Triples, WORDS};
+use walks::{Progress, Walk};
 
-mod walked;
+mod returns;
+
+use returns::{handed, listed, told};
 
 // ---- shots
 
@@ -52,10 +49,7 @@ mod walked;
 pub extern "C" fn patch_accept(shots: &[i32]) -> u8
     ensures { result ≡ number_of (accept_of shots.now) }
 {
-    match shots::accept(shots) {
-        Accepted::Accepted => 0,
-        Accepted::Refused(number) => number,
-    }
+    told(shots::accept(shots), &mut ())
 }
 
 #[unsafe(no_mangle)]
@@ -68,13 +62,7 @@ pub extern "C" fn patch_orientation(
 ) -> u8
     ensures { (result ≡ number_of (orientation_of shots.now a b c)) × (signed.new ≡ left_at signed.old (orientation_of shots.now a b c)) }
 {
-    match shots::orientation(shots, a, b, c) {
-        Oriented::Refused(number) => number,
-        Oriented::Area(x) => {
-            *signed = x;
-            0
-        }
-    }
+    told(shots::orientation(shots, a, b, c), signed)
 }
 
 #[unsafe(no_mangle)]
@@ -87,13 +75,7 @@ pub extern "C" fn patch_double_area(
 ) -> u8
     ensures { (result ≡ number_of (double_area_of shots.now a b c)) × (area.new ≡ left_at area.old (double_area_of shots.now a b c)) }
 {
-    match shots::double_area(shots, a, b, c) {
-        Measured::Refused(number) => number,
-        Measured::Area(x) => {
-            *area = x;
-            0
-        }
-    }
+    told(shots::double_area(shots, a, b, c), area)
 }
 
 #[unsafe(no_mangle)]
@@ -105,29 +87,14 @@ pub extern "C" fn patch_cocircuit(
 ) -> u8
     ensures { (result ≡ number_of (cocircuit_of shots.now i j).answer) × (signs.new ≡ beside_at signs.old (cocircuit_of shots.now i j).answer (cocircuit_of shots.now i j).signs) }
 {
-    let out = shots::cocircuit(shots, i, j);
-    let answer = out.answer;
-    let row = out.signs;
-    match answer {
-        Accepted::Refused(number) => number,
-        Accepted::Accepted => {
-            *signs = row;
-            0
-        }
-    }
+    told(shots::cocircuit(shots, i, j), signs)
 }
 
 #[unsafe(no_mangle)]
 pub extern "C" fn patch_border(shots: &[i32], count: &mut usize) -> u8
     ensures { (result ≡ number_of (border_call_of shots.now)) × (count.new ≡ left_at count.old (border_call_of shots.now)) }
 {
-    match shots::border(shots) {
-        shots::Counted::Refused(number) => number,
-        shots::Counted::Count(pairs) => {
-            *count = pairs;
-            0
-        }
-    }
+    told(shots::border(shots), count)
 }
 
 // ---- outline
@@ -143,12 +110,12 @@ pub extern "C" fn patch_chains(
     ensures { (result ≡ number_of (chains_of shots.now south.old north.old).answer) × (south.new ≡ (chains_of shots.now south.old north.old).south) × (north.new ≡ (chains_of shots.now south.old north.old).north) × (south_length.new ≡ south_at south_length.old (chains_of shots.now south.old north.old).answer) × (north_length.new ≡ north_at north_length.old (chains_of shots.now south.old north.old).answer) }
 {
     match outline::chains(shots, south, north) {
-        Outlined::Refused(number) => number,
-        Outlined::Chains(lengths) => {
+        Ok(lengths) => {
             *south_length = lengths.south;
             *north_length = lengths.north;
             0
         }
+        Err(refusal) => u8::from(refusal),
     }
 }
 
@@ -164,17 +131,7 @@ pub extern "C" fn patch_take_runs(
 ) -> u8
     ensures { (result ≡ number_of (take_runs_of edition units.now values.now).answer) × (shots.new ≡ beside_at shots.old (take_runs_of edition units.now values.now).answer (take_runs_of edition units.now values.now).coordinates) × (count.new ≡ left_at count.old (take_runs_of edition units.now values.now).answer) }
 {
-    let taken = intake::take_runs(edition, units, values);
-    let answer = taken.answer;
-    let coordinates = taken.coordinates;
-    match answer {
-        Patched::Refused(refusal) => refusal,
-        Patched::Shots(given) => {
-            *shots = coordinates;
-            *count = given;
-            0
-        }
-    }
+    handed(intake::take_runs(edition, units, values), shots, count)
 }
 
 // ---- circuits
@@ -183,13 +140,7 @@ pub extern "C" fn patch_take_runs(
 pub extern "C" fn patch_circuits(shots: &[i32], count: &mut usize) -> u8
     ensures { (result ≡ number_of (count_call_of shots.now)) × (count.new ≡ left_at count.old (count_call_of shots.now)) }
 {
-    match circuits::count(shots) {
-        shots::Counted::Refused(number) => number,
-        shots::Counted::Count(all) => {
-            *count = all;
-            0
-        }
-    }
+    told(circuits::count(shots), count)
 }
 
 #[unsafe(no_mangle)]
@@ -197,12 +148,12 @@ pub extern "C" fn patch_circuit(shots: &[i32], z: usize, plus: &mut u16, minus: 
     ensures { (result ≡ number_of (circuit_call_of shots.now z)) × (plus.new ≡ plus_at plus.old (circuit_call_of shots.now z)) × (minus.new ≡ minus_at minus.old (circuit_call_of shots.now z)) }
 {
     match circuits::circuit(shots, z) {
-        Split::Refused(number) => number,
-        Split::Circuit(sides) => {
+        Ok(sides) => {
             *plus = sides.plus;
             *minus = sides.minus;
             0
         }
+        Err(refusal) => u8::from(refusal),
     }
 }
 
@@ -212,39 +163,32 @@ pub extern "C" fn patch_circuit(shots: &[i32], z: usize, plus: &mut u16, minus: 
 pub extern "C" fn patch_test(shots: &[i32], list: &[u64; WORDS]) -> u8
     ensures { result ≡ number_of (test_of shots.now list.now) }
 {
-    match lists::test(shots, rows::row_at(list, 0)) {
-        Tested::Accepted => 0,
-        Tested::Refused(number) => number,
-    }
+    told(lists::test(shots, Triples { words: *list }), &mut ())
 }
 
 #[unsafe(no_mangle)]
 pub extern "C" fn patch_placing(shots: &[i32], list: &mut [u64; WORDS]) -> u8
     ensures { (result ≡ number_of (placing_of shots.now)) × (list.new ≡ left_at list.old (placing_of shots.now)) }
 {
-    match surfaces::placing(shots) {
-        Surface::Refused(number) => number,
-        Surface::List(next) => {
-            rows::put_row(list, 0, next);
-            0
-        }
-    }
+    listed(surfaces::placing(shots), list)
 }
 
 #[unsafe(no_mangle)]
 pub extern "C" fn patch_flip(shots: &[i32], list: &mut [u64; WORDS], z: usize) -> u8
     ensures { (result ≡ number_of (flip_of shots.now list.old z)) × (list.new ≡ left_at list.old (flip_of shots.now list.old z)) }
 {
-    match surfaces::flip(shots, rows::row_at(list, 0), z) {
-        Surface::Refused(number) => number,
-        Surface::List(next) => {
-            rows::put_row(list, 0, next);
-            0
-        }
-    }
+    let before = Triples { words: *list };
+    listed(surfaces::flip(shots, before, z), list)
 }
 
 // ---- the walk
+
+// 1 where the walk is done, 0 where it goes on.
+fn is_done(progress: Progress) -> u8
+    ensures { result ≡ done_flag progress }
+{
+    u8::from(progress == Progress::Done)
+}
 
 #[unsafe(no_mangle)]
 pub extern "C" fn patch_start(
@@ -255,17 +199,15 @@ pub extern "C" fn patch_start(
 ) -> u8
     ensures { left_by result walk.new table.new ≡ left_of (start_called shots.now list.now table.old walk.old) }
 {
-    let first = walked::row_of(list);
-    let answer = walks::start(shots, first, table, walk);
-    walked::begun(answer)
+    let first = Triples { words: *list };
+    told(walks::start(shots, first, table, walk), &mut ())
 }
 
 #[unsafe(no_mangle)]
 pub extern "C" fn patch_step(shots: &[i32], table: &mut [u64], walk: &mut Walk, done: &mut u8) -> u8
     ensures { (left_by result walk.new table.new ≡ left_of (step_call_of shots.now table.old walk.old)) × (done.new ≡ done_at done.old (step_call_of shots.now table.old walk.old).answer) }
 {
-    let answer = walks::step(shots, table, walk);
-    walked::told(answer, done)
+    told(walks::step(shots, table, walk).map(is_done), done)
 }
 
 #[unsafe(no_mangle)]
@@ -278,8 +220,7 @@ pub extern "C" fn patch_run(
 ) -> u8
     ensures { (left_by result walk.new table.new ≡ left_of (run_call_of shots.now table.old walk.old b)) × (done.new ≡ done_at done.old (run_call_of shots.now table.old walk.old b).answer) }
 {
-    let answer = walks::run(shots, table, walk, b);
-    walked::told(answer, done)
+    told(walks::run(shots, table, walk, b).map(is_done), done)
 }
 
 // ---- records
@@ -292,43 +233,21 @@ pub extern "C" fn patch_read_patch(
 ) -> u8
     ensures { (result ≡ number_of (read_patch_of bytes.now).answer) × (shots.new ≡ beside_at shots.old (read_patch_of bytes.now).answer (read_patch_of bytes.now).coordinates) × (count.new ≡ left_at count.old (read_patch_of bytes.now).answer) }
 {
-    let patch = records::read_patch(bytes);
-    let answer = patch.answer;
-    let coordinates = patch.coordinates;
-    match answer {
-        Patched::Refused(number) => number,
-        Patched::Shots(n) => {
-            *shots = coordinates;
-            *count = n;
-            0
-        }
-    }
+    handed(records::read_patch(bytes), shots, count)
 }
 
 #[unsafe(no_mangle)]
 pub extern "C" fn patch_write_patch(shots: &[i32], buffer: &mut [u8], written: &mut usize) -> u8
     ensures { (result ≡ number_of (write_patch_of shots.now buffer.old).answer) × (buffer.new ≡ (write_patch_of shots.now buffer.old).buffer) × (written.new ≡ left_at written.old (write_patch_of shots.now buffer.old).answer) }
 {
-    match records::write_patch(shots, buffer) {
-        Written::Refused(number) => number,
-        Written::Bytes(size) => {
-            *written = size;
-            0
-        }
-    }
+    told(records::write_patch(shots, buffer), written)
 }
 
 #[unsafe(no_mangle)]
 pub extern "C" fn patch_read_surface(shots: &[i32], bytes: &[u8], list: &mut [u64; WORDS]) -> u8
     ensures { (result ≡ number_of (read_surface_of shots.now bytes.now)) × (list.new ≡ left_at list.old (read_surface_of shots.now bytes.now)) }
 {
-    match records::read_surface(shots, bytes) {
-        Surface::Refused(number) => number,
-        Surface::List(next) => {
-            rows::put_row(list, 0, next);
-            0
-        }
-    }
+    listed(records::read_surface(shots, bytes), list)
 }
 
 #[unsafe(no_mangle)]
@@ -340,11 +259,6 @@ pub extern "C" fn patch_write_surface(
 ) -> u8
     ensures { (result ≡ number_of (write_surface_of shots.now list.now buffer.old).answer) × (buffer.new ≡ (write_surface_of shots.now list.now buffer.old).buffer) × (written.new ≡ left_at written.old (write_surface_of shots.now list.now buffer.old).answer) }
 {
-    match records::write_surface(shots, rows::row_at(list, 0), buffer) {
-        Written::Refused(number) => number,
-        Written::Bytes(length) => {
-            *written = length;
-            0
-        }
-    }
+    let list = Triples { words: *list };
+    told(records::write_surface(shots, list, buffer), written)
 }

@@ -1,7 +1,6 @@
 -- What is printed, part by part, and what it is when all that was read was the front of an input.
 --
 --   on_err         what holds is said of an error
---   part_text      the text that a part puts into its room
 --   stops_on       a front of a part, behind what is written: a front of the whole
 --   read_text      the report of what was read is that of the whole input, however long; `read_all`: so is what holds of it
 --   stops_first    nothing is a front of a report, and not all of it
@@ -13,13 +12,12 @@ use Rattle.std.specs.declared.option.Option.{Option}
 use Rattle.std.specs.Io.KnownBytes.{Appends, Consumes, IsAtEnd}
 use Rattle.std.proofs.KnownBytes.{Appends-nil, Appends-trans}
 use Rattle.algebra.specs.Answer.{Answer, gives, refuses}
-use Rattle.algebra.proofs.WritingLaws.{wrote-length, wrote_taken}
 use Rattle.reach.specs.Walks.{Reply, made, done}
 use Rattle.surfaces.specs.Calls.{placing_of}
 use Rattle.records.specs.Fields.{Bytes}
 use Rattle.records.specs.Reading.{coordinates_of}
 use Rattle.records.specs.Calls.{read_patch_of}
-use Rattle.text.specs.Lines.{Put, patch_line, refused_line}
+use Rattle.text.specs.Lines.{patch_line, refused_line}
 use Rattle.report.specs.Report.{Ended, first_line, surfaces_text, end_text, end_of, walk_of, walk_text, placed_text, patch_text, report_of}
 use Rattle.report.proofs.Promises.{report_long}
 use Rattle.streams.specs.Written.{StopsShort}
@@ -27,12 +25,6 @@ use Rattle.streams.specs.Written.{StopsShort}
 pub on_err : {T E Q : Type 0} (r : Result T E) → Q → OnErr r Q
 on_err (Ok x) q = tt
 on_err (Err e) q = q
-
-pub part_text : (t s u : List ℕ) (r : ℕ) → Put t 0 s u r → r ≤ length u → take r u ≡ s
-part_text t s u r (p, e) h =
-    let same : r ≡ length s = omega (arith, p) in
-    let long : length u ≡ length t = ap length e ∙ wrote-length t 0 s in
-    ap (λ k. take k u) same ∙ ap (take (length s)) e ∙ wrote_taken t s (omega (arith, same, long, h))
 
 pub stops_on : (a b c : Option (List ℕ)) (A P B S : List ℕ) → S ≡ A ++ (P ++ B) → Appends a b A → StopsShort b c P → StopsShort a c S
 stops_on a b c A P B S e p (f, r, q, h, m) =

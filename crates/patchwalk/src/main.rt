@@ -3,29 +3,18 @@
 // a write fails, a front of it, and not all of it.
 #![tactic(auto)]
 
-ghost use Rattle.std.specs.Prelude.{◌-◌, ◌≤◌, ◌<◌, IfSome, OnErr, OnOk};
+ghost use Rattle.std.specs.Prelude.{IfSome, OnErr, OnOk};
 ghost use Rattle.std.specs.Io.KnownBytes.{Appends};
 ghost use Rattle.records.specs.Fields.{Bytes};
 ghost use Rattle.report.specs.Report.{report_of};
-ghost use Rattle.report.specs.Sizes.{part_lines};
 ghost use Rattle.streams.specs.Written.{StopsShort};
 
+use arrayvec::ArrayString;
 use std::io;
 use std::io::{Read, Write};
 
 // One byte more than the longest record, so that what is longer is seen to be.
 const INPUT_MOST: usize = 65538;
-
-// The line behind the part that begins at the line from, of so many.
-fn behind(from: usize, lines: usize) -> usize
-    requires { from < lines }
-    ensures { (from < result) × (result ≤ lines) × (result - from ≤ part_lines) }
-{
-    if lines - from < report::PART_LINES {
-        return lines;
-    }
-    from + report::PART_LINES
-}
 
 // Prints the report of the bytes, a part at a time.
 fn print<W: Write>(out: &mut W, bytes: &[u8]) -> io::Result<()>
@@ -37,13 +26,11 @@ fn print<W: Write>(out: &mut W, bytes: &[u8]) -> io::Result<()>
     let mut table = [0u64; report::TABLE_WORDS];
     let found = report::walked::find(bytes, &mut table);
     let lines = report::lines::count(found);
-    let mut text = [0u8; report::PART_MOST];
-    let mut from = 0;
-    while from < lines {
-        let to = behind(from, lines);
-        let k = report::lines::part(bytes, &table, found, from, to, &mut text);
-        streams::put(out, &text[..k])?;
-        from = to;
+    let mut text = ArrayString::new();
+    for from in (0..lines).step_by(report::PART_LINES) {
+        let to = from + report::PART_LINES.min(lines - from);
+        report::lines::part(bytes, &table, found, from, to, &mut text);
+        streams::put(out, text.as_bytes())?;
     }
     Ok(())
 }

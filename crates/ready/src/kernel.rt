@@ -1,81 +1,95 @@
 // What a run works out once: all that the test and the flip of a row read of a patch.
-ghost use Rattle.std.specs.Prelude.{◌≡◌, ℕ, ◌+◌, ◌*◌, ◌^◌, ◌<◌, ◌≤◌, length, slice_index};
-ghost use Rattle.shots.specs.Sizes.{shots_most, mask_bits};
+ghost use Rattle.std.specs.Prelude.{◌≡◌, ℕ, ◌+◌, ◌^◌, ◌<◌, length, map, option_map};
+ghost use Rattle.shots.specs.Sizes.{mask_bits};
 ghost use Rattle.shots.specs.Tests.{refusal_of};
-ghost use Rattle.circuits.specs.Sizes.{circuits_most};
+ghost use Rattle.arrayvec.specs.ArrayVec.{array_vec_len};
 ghost use Rattle.circuits.specs.Numbering.{circuits_of};
-ghost use Rattle.triples.specs.Sizes.{word_count};
-ghost use Rattle.triples.specs.Sets.{words_of, Written, Holding};
+ghost use Rattle.triples.specs.Sets.{words_of};
+ghost use Rattle.lists.specs.Held.{sides_at};
 ghost use Rattle.lists.specs.Tests.{list_refusal_of};
-ghost use Rattle.surfaces.specs.Stars.{star_of, found_answer};
+ghost use Rattle.surfaces.specs.Stars.{found_answer};
 ghost use Rattle.surfaces.specs.Calls.{flip_of};
-ghost use Rattle.ready.specs.Ready.{ready_rows, Ready};
+ghost use Rattle.ready.specs.Ready.{stars_of, ReadyFor};
 
-use circuits::CIRCUITS_MOST;
-use lists::{HELD_ROWS, kernel};
+use arrayvec::ArrayVec;
+use circuits::{CIRCUITS_MOST, Sides};
+use lists::kernel;
+use lists::kernel::Held;
 use surfaces::flips;
-use surfaces::flips::Turned;
-use triples::{Triples, WORDS, rows};
+use surfaces::holders::Holders;
+use triples::{Triples, sets};
 
-// The rows of a test's table, and then the stars of the plus side and of the minus side of each circuit.
-pub const PLUS_STARS: usize = HELD_ROWS;
+// The stars of a circuit's sides.
+#[derive(Clone, Copy, Debug, PartialEq, Eq)]
+pub struct Stars {
+    pub plus: Triples,
+    pub minus: Triples,
+}
 
-pub const MINUS_STARS: usize = PLUS_STARS + CIRCUITS_MOST;
-
-pub const READY_WORDS: usize = WORDS * (MINUS_STARS + CIRCUITS_MOST);
-
-// Row first + z: the star of the side of circuit z.
-fn stars(
-    n: usize,
-    plus: &[u16],
-    minus: &[u16],
-    side: &[u16],
-    count: usize,
-    first: usize,
-    held: &mut [u64],
-)
-    requires { (n ≤ shots_most) × (n ≤ first) × Holding n held.old × (count ≤ length plus.now) × (count ≤ length minus.now) × (count ≤ length side.now) × (word_count * (first + count) ≤ length held.old) × ((z : ℕ) → z < count → slice_index plus.now z + slice_index minus.now z < 2 ^ mask_bits) }
-    ensures { Written first count (λ z. star_of n (slice_index side.now z) (slice_index plus.now z + slice_index minus.now z)) held.old held.new }
-{
-    let mut z = 0;
-    while z < count {
-        let star = flips::star(held, n, side[z], plus[z] + minus[z]);
-        rows::put_row(held, first + z, star);
-        z += 1;
+impl Default for Stars {
+    fn default() -> Self {
+        Stars {
+            plus: sets::none(),
+            minus: sets::none(),
+        }
     }
 }
 
-// All of it; how many circuits there are.
-pub fn prepare(shots: &[i32], plus: &mut [u16], minus: &mut [u16], held: &mut [u64]) -> usize
-    requires { (refusal_of shots.now ≡ 0) × (circuits_most ≤ length plus.old) × (circuits_most ≤ length minus.old) × (word_count * ready_rows ≤ length held.old) }
-    ensures { (result ≡ length (circuits_of shots.now)) × Ready shots.now plus.new minus.new held.new }
-{
-    let n = shots.len() / 2;
-    let count = kernel::prepare(shots, plus, minus, held);
-    stars(n, plus, minus, plus, count, PLUS_STARS, held);
-    stars(n, plus, minus, minus, count, MINUS_STARS, held);
-    count
+// All of it: what a test reads, and the stars of each circuit.
+#[derive(Drop)]
+pub struct Ready {
+    pub held: Held,
+    pub stars: ArrayVec<Stars, CIRCUITS_MOST>,
 }
 
-// The flip of an accepted list along circuit z.
-pub fn turn(
-    shots: &[i32],
-    plus: &[u16],
-    minus: &[u16],
-    held: &[u64],
-    count: usize,
-    list: Triples,
-    z: usize,
-) -> Turned
-    requires { (refusal_of shots.now ≡ 0) × Ready shots.now plus.now minus.now held.now × (count ≡ length (circuits_of shots.now)) × (list_refusal_of shots.now (words_of list) ≡ 0) × (z < count) }
-    ensures { found_answer result.found (words_of result.list) ≡ flip_of shots.now (words_of list) z }
+// The stars of each circuit, in order.
+fn all_stars(
+    circuits: &ArrayVec<Sides, CIRCUITS_MOST>,
+    holders: Holders,
+    stars: &mut ArrayVec<Stars, CIRCUITS_MOST>,
+)
+    requires { (z : ℕ) → z < array_vec_len circuits.now → (sides_at circuits.now.items z).plus + (sides_at circuits.now.items z).minus < 2 ^ mask_bits }
+    ensures { stars.new.items ≡ map (stars_of holders.entry.n) circuits.now.items }
 {
+    stars.clear();
+    for side in circuits.iter() {
+        let x = side.plus + side.minus;
+        stars.push(Stars {
+            plus: flips::star(holders, side.plus, x),
+            minus: flips::star(holders, side.minus, x),
+        });
+    }
+}
+
+// In its place, since the value is too large to be moved from call to call.
+pub fn prepare(shots: &[i32], ready: &mut Ready)
+    requires { refusal_of shots.now ≡ 0 }
+    ensures { ReadyFor shots.now ready.new }
+{
+    kernel::prepare(shots, &mut ready.held);
+    let holders = Holders {
+        held: &ready.held.rows,
+        n: shots.len() / 2,
+    };
+    all_stars(&ready.held.circuits, holders, &mut ready.stars);
+}
+
+// The flip of an accepted list along circuit z, where there is one.
+pub fn turn(shots: &[i32], ready: &Ready, list: Triples, z: usize) -> Option<Triples>
+    requires { (refusal_of shots.now ≡ 0) × ReadyFor shots.now ready.now × (list_refusal_of shots.now (words_of list) ≡ 0) × (z < length (circuits_of shots.now)) }
+    ensures { found_answer (option_map words_of result) ≡ flip_of shots.now (words_of list) z }
+{
+    let side = ready.held.circuits[z];
+    let stars = ready.stars[z];
+    let holders = Holders {
+        held: &ready.held.rows,
+        n: shots.len() / 2,
+    };
     flips::between(
-        held,
-        shots.len() / 2,
-        plus[z] + minus[z],
-        rows::row_at(held, PLUS_STARS + z),
-        rows::row_at(held, MINUS_STARS + z),
+        holders,
+        side.plus + side.minus,
+        stars.plus,
+        stars.minus,
         list,
     )
 }

@@ -6,6 +6,9 @@
 --   field_low       k bytes hold a number below 256 ^ k
 --   signed_code, code-signed    whole numbers in two's complement, there and back
 --   code_low        the code of a coordinate fits in four bytes
+--   two_bytes, four_bytes       the library's big-endian bytes of a number
+--   signed_read, code_read      the library's reading of four bytes as two's complement, and what it makes of a whole number
+--   wrote_range     a run copied into a range of another
 use mathlib.Core.Path.{◌≡◌, refl, sym, ◌∙◌, ap}
 use mathlib.Core.Bool.{Bool, true, false, cond}
 use mathlib.Core.List.{List, [], ◌∷◌, ◌++◌, append_assoc}
@@ -17,6 +20,16 @@ use lib.ListN.{length, get_or, take, drop, length-append, length-drop}
 use lib.Seq.{get_or_at, get_or-drop, take-suc}
 use lib.IntN.{ℤ, pos, negsuc, nat_abs}
 use borrow.Author.Tests.{lt-ltb, le-ltb}
+use borrow.Rule.Slice.PartMut.{put_mid}
+use mir.Syntax.{w16, w32}
+use mir.Val.{to_z, of_z}
+use mir.Facts.{to_z_pos, to_z-neg}
+use native.Mathlib.Decide.{dec_lt}
+use Rattle.std.specs.Int.{to_be_bytes}
+use Rattle.std.proofs.lemmas.Slice.{put_mid-paste}
+use Rattle.std.proofs.lemmas.List.Edits.{paste_all}
+use Rattle.algebra.specs.Writing.{wrote}
+use Rattle.algebra.proofs.WritingLaws.{wrote_parts}
 use Rattle.shots.specs.Sizes.{farthest}
 use Rattle.records.specs.Fields.{Bytes, bytes_of, field_of, code_of, signed_of}
 
@@ -75,3 +88,36 @@ pub code_low : (z : ℤ) → nat_abs z ≤ farthest → code_of z < 256 ^ 4
 unfolding code_of
 code_low (pos m) h = omega arith
 code_low (negsuc m) h = omega arith
+
+-- ---- what the library reads and writes
+
+pub two_bytes : (v : ℕ) → to_be_bytes w16 v ≡ bytes_of 2 v
+unfolding bytes_of
+two_bytes v = refl
+
+pub four_bytes : (v : ℕ) → to_be_bytes w32 v ≡ bytes_of 4 v
+unfolding bytes_of
+four_bytes v =
+    let x : v / 16777216 % 256 ≡ v / 256 / 256 / 256 % 256 = omega arith in
+    let y : v / 65536 % 256 ≡ v / 256 / 256 % 256 = omega arith in
+    λ i. x i ∷ y i ∷ (v / 256 % 256) ∷ (v % 256) ∷ []
+
+pub signed_read : (v : ℕ) → v < 2 ^ 32 → to_z w32 v ≡ signed_of v
+unfolding signed_of
+signed_read v h = by (dec_lt v (2 ^ 31))
+  where
+    by : Dec (v < 2 ^ 31) → to_z w32 v ≡ cond (ltb v (2 ^ 31)) (pos v) (negsuc (2 ^ 32 - 1 - v))
+    by (yes k) = to_z_pos w32 k ∙ rw (lt-ltb v (2 ^ 31) k) refl
+    by (no k) =
+        ap (to_z w32) (let e : v ≡ 2 ^ 32 - suc (2 ^ 32 - 1 - v) = omega arith in e)
+        ∙ to_z-neg w32 (2 ^ 32 - 1 - v) (omega arith)
+        ∙ rw (le-ltb v (2 ^ 31) (omega arith)) refl
+
+pub code_read : (z : ℤ) → of_z w32 z ≡ code_of z
+unfolding code_of
+code_read (pos m) = refl
+code_read (negsuc m) = let e : 2 ^ 32 - suc m ≡ 2 ^ 32 - 1 - m = omega arith in e
+
+pub wrote_range : {A : Type 0} (t : List A) (at k : ℕ) (s u : List A) → u ≡ s → k ≡ length s → at + k ≤ length t → put_mid at k t u ≡ wrote t at s
+wrote_range t at k s u e l h =
+    put_mid-paste at k t u s k e refl l ∙ paste_all t at s k l ∙ ap (λ i. take at t ++ (s ++ drop (at + i) t)) l ∙ sym (wrote_parts t at s (omega arith))

@@ -14,6 +14,7 @@
 --   field_behind         a field behind a first part of a record
 --   same_test, test_same         the test of two numbers that are to be the same
 --   framed               the test of the length field
+--   frame_long           what passes it has as many bytes as it asks
 --   patch_numbered, surface_numbered        no rule of a frame has the number 0
 --   patch_framed, surface_framed            what the frames say where they are not refused
 --   coordinates-length   how many coordinates a patch record has
@@ -30,12 +31,12 @@ use lib.Dec.{ltb, eqb}
 use lib.ListN.{get_or, length, drop, set, length-append, length-set}
 use lib.Seq.{get_or-drop}
 use lib.IntN.{ℤ, pos}
-use Rattle.algebra.specs.Answer.{Numbered, Reflects}
+use Rattle.algebra.specs.Answer.{gives, chain, Numbered, Reflects}
 use Rattle.algebra.specs.Loops.{tally, over}
 use Rattle.algebra.specs.Sets.{Within}
 use Rattle.algebra.specs.Words.{member}
 use Rattle.algebra.specs.Writing.{wrote}
-use Rattle.algebra.proofs.AnswerLaws.{Unbroken, reflects_iff, reflects-not, reflects-or, reflects-and, reflects_ltb}
+use Rattle.algebra.proofs.AnswerLaws.{Unbroken, gives_unbroken, reflects_iff, reflects-not, reflects-or, reflects-and, reflects_ltb}
 use Rattle.algebra.proofs.LoopLaws.{or_parts, tally_below, length-tabulate}
 use Rattle.algebra.proofs.OverLaws.{over_sized}
 use Rattle.algebra.proofs.WritingLaws.{wrote-append}
@@ -50,7 +51,7 @@ use Rattle.triples.proofs.RankLaws.{triple_at_within, triples_few}
 use Rattle.records.specs.Sizes.{version}
 use Rattle.records.specs.Fields.{Bytes, bytes_of, field_of, code_of}
 use Rattle.records.specs.Formats.{coordinate_bytes, patch_bytes, rank_bytes, triple_bytes, surface_bytes}
-use Rattle.records.specs.Reading.{misfits, patch_frame, coordinate_at, coordinates_of, patch_rules, surface_frame, triple_in, in_form, least_at, bad_at}
+use Rattle.records.specs.Reading.{misfits, length_rule, patch_frame, coordinate_at, coordinates_of, patch_rules, surface_frame, triple_in, in_form, least_at, bad_at}
 use Rattle.records.specs.Lines.{Framed}
 use Rattle.records.proofs.FieldLaws.{bytes-length, field_bytes, bytes_field}
 
@@ -171,6 +172,9 @@ framed k b = (
   λ e. let p = or_parts (ltb (length b) k) (not (eqb (field_of 2 b 0 + 2) (length b))) e in (ltb-false (length b) k p.0, test_same (field_of 2 b 0 + 2) (length b) p.1),
   λ (h, e). rw (le-ltb (length b) k h) (same_test (field_of 2 b 0 + 2) (length b) e),
 )
+
+pub frame_long : (k : ℕ) (b : List ℕ) → gives tt ≡ chain {A = Unit {0}} (length_rule k b ∷ []) tt → k ≤ length b
+frame_long k b e = ((framed k b).0 (gives_unbroken (length_rule k b ∷ []) tt tt (sym e)).0.0).0
 
 pub patch_numbered : (b : List ℕ) → Numbered (patch_frame b)
 patch_numbered b = (omega arith, (omega arith, (omega arith, (omega arith, tt))))

@@ -13,6 +13,7 @@
 --   read_patch_one, write_patch_one, write_surface_one, read_surface_one    two permitted answers are the same
 --
 -- That the tests decide the lines: proofs/Agreement. Source: document 01, "Records", "Refusal numbers".
+use Rattle.std.proofs.Common.{Result}
 use mathlib.Core.Path.{◌≡◌, refl, sym, ◌∙◌, ap, subst}
 use mathlib.Core.Logic.{inl, ◌↔◌}
 use mathlib.Core.List.{List, [], ◌∷◌, ◌++◌}
@@ -22,32 +23,32 @@ use lib.ListN.{get_or, length, replicate, take, drop}
 use lib.IntN.{ℤ, pos}
 use Rattle.algebra.specs.Answer.{Answer, gives, refuses, Rule, Line, First, Clear, Decides}
 use Rattle.algebra.specs.Writing.{wrote, buffer_with, NoRoom}
-use Rattle.algebra.proofs.AnswerLaws.{chain_refuses_upon, chain_gives_upon, one_answer, decides-append, clear-append, reflects_ltb}
+use Rattle.algebra.proofs.AnswerLaws.{chain_refuses_upon, chain_gives_upon, decides-append, clear-append, reflects_ltb}
 use Rattle.algebra.proofs.AnswerLaws.{Unbroken, unbroken-refusal, append_unbroken}
 use Rattle.shots.specs.Sizes.{coordinates_most}
 use Rattle.shots.specs.Patch.{count_of}
 use Rattle.shots.specs.Tests.{shot_rules, place_rules, refusal_of}
 use Rattle.shots.specs.Lines.{shot_lines}
+use Rattle.shots.specs.Refusals.{answer_of}
 use Rattle.shots.specs.Calls.{read_patch}
 use Rattle.shots.specs.declared.Handed.{Handed}
+use Rattle.shots.specs.declared.refusal.Refusal.{Refusal}
+use Rattle.shots.proofs.RefusalLaws.{answer_one, answered_one}
 use Rattle.shots.proofs.Promises.{shots_decided, shots_kept}
 use Rattle.shots.proofs.HandedLaws.{handed_refuses, handed_gives, handed_coordinates, handed-refused, handed_kept, handed-front, patch_one}
+use Rattle.triples.specs.Sets.{words_of}
+use Rattle.triples.specs.declared.Triples.{Triples}
 use Rattle.lists.specs.Tests.{list_rules}
 use Rattle.lists.specs.Lines.{list_lines}
 use Rattle.lists.specs.Calls.{test_of}
 use Rattle.lists.proofs.Agreement.{list_decided, accepted_iff_triangulation}
 use Rattle.lists.proofs.Promises.{test_accepts}
-use Rattle.surfaces.specs.Calls.{read_surface}
-use Rattle.surfaces.specs.declared.Surface.{Surface}
-use Rattle.surfaces.proofs.Promises.{surface_one}
 use Rattle.records.specs.Fields.{Bytes, field_of}
 use Rattle.records.specs.Formats.{patch_bytes, surface_bytes}
 use Rattle.records.specs.Reading.{coordinates_of, patch_frame, patch_rules, surface_frame, triple_rule, listed_of}
 use Rattle.records.specs.Lines.{read_patch_lines, surface_frame_lines, OutOfForm, read_surface_lines, write_patch_lines, write_surface_lines}
-use Rattle.records.specs.Calls.{read_written, read_patch_of, read_surface_of}
+use Rattle.records.specs.Calls.{read_patch_of, read_surface_of}
 use Rattle.records.specs.Calls.{Writing, left_in, room_rule, write_of, write_patch_of, write_surface_of}
-use Rattle.records.specs.declared.Written.{Written}
-use Rattle.records.specs.declared.Written.TheVariants as W
 use Rattle.records.proofs.FieldLaws.{field_low}
 use Rattle.records.proofs.FormatLaws.{patch_framed, coordinates-length, coordinates_kept}
 use Rattle.records.proofs.CallChains.{written}
@@ -185,30 +186,19 @@ module _ (l : List ℤ) (b : List ℕ) where
       let (p, g) = (accepted_iff_triangulation l held).0 ((clear-append form_lines (list_lines l held)).0 k).1 in
       subst (λ (u : List ℕ). test_of l u ≡ gives tt) q ((test_accepts l held).1 (h, p, g))
 
--- ---- one answer: each reading can be undone
+-- ---- one answer
 
-abbrev written_as : Answer ℕ → Written
-written_as (gives k) = W.Bytes k
-written_as (refuses n) = W.Refused n
+left_one : {x : Writing} (u u' : List ℕ) (r r' : Result ℕ Refusal) → left_in u r ≡ x → left_in u' r' ≡ x → (u ≡ u') × (r ≡ r')
+left_one {x} u u' r r' p q = (ap (λ (y : Writing). y.buffer) (p ∙ sym q), answered_one (ap (λ (y : Writing). y.answer) p) (ap (λ (y : Writing). y.answer) q))
 
-written_back : (r : Written) → written_as (read_written r) ≡ r
-written_back (W.Bytes k) = refl
-written_back (W.Refused n) = refl
-
-left_one : {x : Writing} (u u' : List ℕ) (r r' : Written) → left_in u r ≡ x → left_in u' r' ≡ x → (u ≡ u') × (r ≡ r')
-left_one {x} u u' r r' p q = (
-  ap (λ (y : Writing). y.buffer) (p ∙ sym q),
-  one_answer read_written written_as written_back (ap (λ (y : Writing). y.answer) p) (ap (λ (y : Writing). y.answer) q),
-)
-
-pub read_patch_one : (b : List ℕ) (r r' : Handed) → read_patch r ≡ read_patch_of b → read_patch r' ≡ read_patch_of b → r ≡ r'
+pub read_patch_one : (b : List ℕ) (r r' : Result Handed Refusal) → read_patch r ≡ read_patch_of b → read_patch r' ≡ read_patch_of b → r ≡ r'
 read_patch_one b r r' = patch_one
 
-pub write_patch_one : (l : List ℤ) (t u u' : List ℕ) (r r' : Written) → left_in u r ≡ write_patch_of l t → left_in u' r' ≡ write_patch_of l t → (u ≡ u') × (r ≡ r')
+pub write_patch_one : (l : List ℤ) (t u u' : List ℕ) (r r' : Result ℕ Refusal) → left_in u r ≡ write_patch_of l t → left_in u' r' ≡ write_patch_of l t → (u ≡ u') × (r ≡ r')
 write_patch_one l t = left_one
 
-pub write_surface_one : (l : List ℤ) (w t u u' : List ℕ) (r r' : Written) → left_in u r ≡ write_surface_of l w t → left_in u' r' ≡ write_surface_of l w t → (u ≡ u') × (r ≡ r')
+pub write_surface_one : (l : List ℤ) (w t u u' : List ℕ) (r r' : Result ℕ Refusal) → left_in u r ≡ write_surface_of l w t → left_in u' r' ≡ write_surface_of l w t → (u ≡ u') × (r ≡ r')
 write_surface_one l w t = left_one
 
-pub read_surface_one : (l : List ℤ) (b : List ℕ) (r r' : Surface) → read_surface r ≡ read_surface_of l b → read_surface r' ≡ read_surface_of l b → r ≡ r'
-read_surface_one l b r r' = surface_one
+pub read_surface_one : (l : List ℤ) (b : List ℕ) (r r' : Result Triples Refusal) → answer_of words_of r ≡ read_surface_of l b → answer_of words_of r' ≡ read_surface_of l b → r ≡ r'
+read_surface_one l b r r' = answer_one words_of (λ w. record { words = w }) (λ t. refl)

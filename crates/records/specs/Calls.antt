@@ -1,6 +1,5 @@
 -- What each public call of this room answers, and all that it leaves, for every input.
 --
---   read_written          the refusal number or the value of each case of an answer; shots has that of a patch, surfaces that of a list
 --   read_patch_of b        the shots of a patch record, 0 in the places past them; or 5 6 1 5 2 3 4, and 0 everywhere
 --   framed_of n b         what the frame and the triples of a surface record say by themselves, for n shots: its list, or 5 6 7 5 7
 --   read_surface_of l b    the words of a surface record's list; or 1-4, 5 6 7 5 7 10 8 9
@@ -11,23 +10,17 @@
 --   write_surface_of l w t     the record of a list; or 1-4, 7 10 8 9, 11
 --
 -- Source: document 01, "Records".
-use Rattle.std.specs.Prelude.{List, [], ◌∷◌, ◌++◌, ℕ, ltb, get_or, length, ℤ}
-use Rattle.algebra.specs.Answer.{Answer, gives, refuses, Rule, chain}
+use Rattle.std.specs.Prelude.{List, [], ◌∷◌, ◌++◌, ℕ, ltb, get_or, length, ℤ, Result}
+use Rattle.algebra.specs.Answer.{Answer, Rule, chain}
 use Rattle.algebra.specs.Writing.{buffer_with}
 use Rattle.shots.specs.Patch.{count_of}
 use Rattle.shots.specs.Tests.{shot_rules}
+use Rattle.shots.specs.Refusals.{answered}
 use Rattle.shots.specs.Calls.{PatchRead, patch_given}
+use Rattle.shots.specs.declared.refusal.Refusal.{Refusal}
 use Rattle.lists.specs.Tests.{list_rules}
 use Rattle.records.specs.Formats.{patch_bytes, surface_bytes}
 use Rattle.records.specs.Reading.{coordinates_of, patch_rules, surface_frame, triple_rule, listed_of, surface_rules}
-use Rattle.records.specs.declared.Written.{Written}
-use Rattle.records.specs.declared.Written.TheVariants as W
-
--- ---- the paper's number and value of each case
-
-abbrev pub read_written : Written → Answer ℕ
-read_written (W.Bytes k) = gives k
-read_written (W.Refused n) = refuses n
 
 -- ---- readers
 
@@ -46,8 +39,8 @@ pub record Writing : Type 0 where
   pub answer : Answer ℕ
   pub buffer : List ℕ
 
-abbrev pub left_in : List ℕ → Written → Writing
-left_in t r = record { answer = read_written r; buffer = t }
+abbrev pub left_in : List ℕ → Result ℕ Refusal → Writing
+left_in t r = record { answer = answered r; buffer = t }
 
 -- 11: the buffer is shorter than the record
 abbrev pub room_rule : List ℕ → List ℕ → Rule

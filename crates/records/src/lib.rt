@@ -11,13 +11,11 @@
 
 ghost use Rattle.std.specs.Prelude.{◌≡◌};
 ghost use Rattle.triples.specs.Sets.{words_of};
-ghost use Rattle.surfaces.specs.Calls.{read_surface};
+ghost use Rattle.shots.specs.Refusals.{answer_of};
 ghost use Rattle.shots.specs.Calls.{read_patch};
 ghost use Rattle.records.specs.Calls.{left_in, read_patch_of, read_surface_of, write_patch_of, write_surface_of};
 
-use lists::Tested;
-use shots::{COORDINATES_MOST, Handed, Patched};
-use surfaces::Surface;
+use shots::{Handed, Refusal};
 use triples::Triples;
 
 mod fields;
@@ -26,83 +24,54 @@ mod patches;
 
 pub const VERSION: u8 = 1;
 
-#[derive(Clone, Copy)]
-pub enum Written {
-    Bytes(usize),
-    Refused(u8),
-}
-
-pub fn read_patch(bytes: &[u8]) -> Handed
+#[tactic(auto, using(crate::proofs::CallChains::patch_stops, crate::proofs::CallChains::patch_counted, crate::proofs::CallChains::coordinates_taken, crate::proofs::CallChains::patch_unplaced, crate::proofs::CallChains::patch_read))]
+pub fn read_patch(bytes: &[u8]) -> Result<Handed, Refusal>
     ensures { read_patch result ≡ read_patch_of bytes.now }
 {
-    let number = patches::frame(bytes);
-    if number != 0 {
-        return Handed {
-            answer: Patched::Refused(number),
-            coordinates: [0; COORDINATES_MOST],
-        };
-    }
-    let n = bytes[3] as usize;
-    let coordinates = patches::coordinates(bytes, n);
-    let refusal = shots::tests::refusal(&coordinates[..2 * n]);
-    if refusal != 0 {
-        return Handed {
-            answer: Patched::Refused(refusal),
-            coordinates: [0; COORDINATES_MOST],
-        };
-    }
-    Handed {
-        answer: Patched::Shots(n),
-        coordinates,
-    }
+    let count = patches::frame(bytes)?;
+    let coordinates = patches::coordinates(bytes, count);
+    shots::accept(&coordinates[..2 * count])?;
+    Ok(Handed { count, coordinates })
 }
 
-pub fn write_patch(shots: &[i32], buffer: &mut [u8]) -> Written
+#[tactic(auto, using(crate::proofs::CallChains::patch_unwritten, crate::proofs::CallChains::patch_short, crate::proofs::CallChains::patch_written, shots::proofs::Chains::run_accepted, shots::proofs::Patch::patch_few))]
+pub fn write_patch(shots: &[i32], buffer: &mut [u8]) -> Result<usize, Refusal>
     ensures { left_in buffer.new result ≡ write_patch_of shots.now buffer.old }
 {
-    let refusal = shots::tests::refusal(shots);
-    if refusal != 0 {
-        return Written::Refused(refusal);
-    }
+    shots::accept(shots)?;
     let size = patches::size(shots.len() / 2);
     if buffer.len() < size {
-        return Written::Refused(11);
+        return Err(Refusal::Room);
     }
     patches::put(shots, buffer);
-    Written::Bytes(size)
+    Ok(size)
 }
 
-pub fn read_surface(shots: &[i32], bytes: &[u8]) -> Surface
-    ensures { read_surface result ≡ read_surface_of shots.now bytes.now }
+#[tactic(auto, using(crate::proofs::CallChains::surface_stops, crate::proofs::CallChains::surface_unread, crate::proofs::CallChains::surface_untested, crate::proofs::CallChains::surface_read, shots::proofs::Chains::run_accepted, shots::proofs::Patch::patch_few))]
+pub fn read_surface(shots: &[i32], bytes: &[u8]) -> Result<Triples, Refusal>
+    ensures { answer_of words_of result ≡ read_surface_of shots.now bytes.now }
 {
-    let refusal = shots::tests::refusal(shots);
-    if refusal != 0 {
-        return Surface::Refused(refusal);
-    }
+    shots::accept(shots)?;
+    // The list is taken out of what the reader hands back by `let .. else`, the form that document 01 names for this place.
     let read = listed::read(shots.len() / 2, bytes);
-    let Surface::List(list) = read else {
+    let Ok(list) = read else {
         return read;
     };
-    match lists::test(shots, list) {
-        Tested::Accepted => Surface::List(list),
-        Tested::Refused(number) => Surface::Refused(number),
-    }
+    lists::test(shots, list)?;
+    Ok(list)
 }
 
-pub fn write_surface(shots: &[i32], list: Triples, buffer: &mut [u8]) -> Written
+#[tactic(auto, using(crate::proofs::CallChains::surface_unwritten, crate::proofs::CallChains::surface_short, crate::proofs::CallChains::surface_written, crate::proofs::CallChains::tested_few, crate::proofs::FormatLaws::size_few))]
+pub fn write_surface(shots: &[i32], list: Triples, buffer: &mut [u8]) -> Result<usize, Refusal>
     ensures { left_in buffer.new result ≡ write_surface_of shots.now (words_of list) buffer.old }
 {
-    match lists::test(shots, list) {
-        Tested::Refused(number) => Written::Refused(number),
-        Tested::Accepted => {
-            let n = shots.len() / 2;
-            let t = triples::holding::size(n, list);
-            let size = listed::size(t);
-            if buffer.len() < size {
-                return Written::Refused(11);
-            }
-            listed::put(n, list, t, buffer);
-            Written::Bytes(size)
-        }
+    lists::test(shots, list)?;
+    let n = shots.len() / 2;
+    let t = triples::holding::size(n, list);
+    let size = listed::size(t);
+    if buffer.len() < size {
+        return Err(Refusal::Room);
     }
+    listed::put(n, list, t, buffer);
+    Ok(size)
 }

@@ -1,25 +1,22 @@
 -- The report line by line: what is known after the walk, and the lines that this makes.
 --
 --   find-refused, find_read, find_placed      the find of a refused record, of a patch, and of what placing answers
---   Fits f, find_fits   the rows of a find fit into the table; so they do for every input
+--   Fits f, find_fits, found_fits   the rows of a find fit into the table; so they do for every input, and so for what the code found
 --   find-accepted       where surfaces are shown, the record was accepted
 --   line_first, line_last, line_row           the three kinds of lines
---   over_next, over_one, put_none      one part more; one part; no part is put
 --   count_shown, count-refused    how many lines there are
 --   part-refused, part_shown     lines that follow each other, where a number is printed and where surfaces are shown
 --   lines_surfaces      all lines of shown surfaces are their text
 --   lines-refused, lines_end     so for a number alone, and for each answer of a walk
-use Rattle.std.specs.Prelude.{◌≡◌, ℕ, zero, suc, ◌+◌, ◌-◌, ◌<◌, ◌≤◌, Bool, true, false, cond, eqb, List, ◌++◌, length, ℤ}
+use Rattle.std.specs.Prelude.{◌≡◌, ℕ, zero, suc, ◌+◌, ◌-◌, ◌<◌, ◌≤◌, Bool, true, false, cond, eqb, List, ◌++◌, ℤ, Result, Ok, Err, IfOk}
 use mathlib.Core.Path.{refl, sym, ◌∙◌, ap, subst}
-use mathlib.Core.List.{append-nil}
 use native.Mathlib.Omega.{arith}
 use native.Mathlib.Numerals.{add-one}
 use borrow.Author.Tests.{eq-eqb, ne_eqb}
 use Rattle.algebra.specs.Answer.{Answer, gives, refuses}
 use Rattle.algebra.specs.Loops.{run, over}
 use Rattle.algebra.specs.Words.{row_of}
-use Rattle.algebra.specs.Writing.{wrote}
-use Rattle.algebra.proofs.OverLaws.{over-turn, over_end, over-split, over_same}
+use Rattle.algebra.proofs.OverLaws.{over-turn, over-split, over_same}
 use Rattle.reach.specs.Walks.{Reply, made, done}
 use Rattle.shots.specs.Patch.{count_of}
 use Rattle.triples.specs.Sizes.{word_count}
@@ -27,9 +24,12 @@ use Rattle.surfaces.specs.Calls.{placing_of}
 use Rattle.surfaces.proofs.Promises.{placing_words}
 use Rattle.records.specs.Reading.{coordinates_of}
 use Rattle.records.specs.Calls.{read_patch_of}
-use Rattle.text.specs.Lines.{Put, last_line, refused_line}
+use Rattle.text.specs.Lines.{last_line, refused_line}
+use Rattle.text.proofs.PartLaws.{over_one}
 use Rattle.report.specs.Sizes.{table_rows}
-use Rattle.report.specs.Report.{Ended, first_line, line_at, surfaces_text, end_text, end_of, walk_of, Find, refused_find, end_find, walk_find, placed_find, patch_find, find_of, line_count, shown_line, line_of}
+use Rattle.report.specs.Report.{Ended, first_line, line_at, surfaces_text, end_text, end_of, walk_of, Find, read_found, refused_find, end_find, walk_find, placed_find, patch_find, find_of, line_count, shown_line, line_of}
+use Rattle.shots.specs.declared.refusal.Refusal.{Refusal}
+use Rattle.report.specs.declared.Shown.{Shown}
 use Rattle.report.proofs.WalkLaws.{placing_tested, rows_fit}
 
 -- ---- what is known after the walk
@@ -48,6 +48,10 @@ find_placed l e = ap (λ (x : Answer (List ℕ)). placed_find l x) e
 -- the rows of a find fit into a table of this size
 abbrev pub Fits : Find → Type 0
 Fits f = f.ended.walk.rows ≤ table_rows
+
+pub found_fits : (r : Result Shown Refusal) (t : List ℕ) → Fits (read_found r t) → IfOk r (λ s. s.walk.rows ≤ table_rows)
+found_fits (Ok s) t h = h
+found_fits (Err x) t h = tt
 
 end_fits : (x : Ended) (a : Answer Reply) → x.walk.rows ≤ table_rows → Fits (end_find x a)
 end_fits x (gives made) h = h
@@ -101,12 +105,6 @@ module _ (l : List ℤ) (x : Ended) (d : Bool) (i : ℕ) where
 -- ---- lines that follow each other
 
 module _ {A : Type 0} (f : ℕ → List A) where
-  pub over_one : (i j : ℕ) → j ≡ i + 1 → over f i j ≡ f i
-  over_one i j e = over-turn f i j (omega arith) ∙ ap (λ (s : List A). f i ++ s) (over_end f (i + 1) j (omega arith)) ∙ append-nil (f i)
-
-  pub over_next : (a i : ℕ) → a ≤ i → over f a (i + 1) ≡ over f a i ++ f i
-  over_next a i h = over-split f a i (i + 1) h (omega arith) ∙ ap (λ (s : List A). over f a i ++ s) (over_one i (i + 1) refl)
-
   run_shift : (a k : ℕ) → run f (suc a) k ≡ run (λ i. f (i + 1)) a k
   unfolding run
   run_shift a zero = refl
@@ -115,10 +113,6 @@ module _ {A : Type 0} (f : ℕ → List A) where
   over_shift : (n : ℕ) → over f 1 (n + 1) ≡ over (λ i. f (i + 1)) 0 n
   unfolding over
   over_shift n = ap (run f 1) (let e : n + 1 - 1 ≡ n - 0 = omega arith in e) ∙ run_shift 0 (n - 0)
-
-pub put_none : (f : ℕ → List ℕ) (a : ℕ) (t : List ℕ) → Put t 0 (over f a a) t 0
-unfolding wrote
-put_none f a t = let e = over_end f a a (omega arith) in (omega (arith, ap length e), sym (ap (wrote t 0) e))
 
 module _ (f : Find) where
   pub count_shown : f.shown ≡ true → line_count f ≡ f.ended.walk.rows + 2

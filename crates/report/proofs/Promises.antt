@@ -45,7 +45,7 @@ use Rattle.records.specs.Fields.{Bytes}
 use Rattle.records.specs.Reading.{coordinates_of}
 use Rattle.records.specs.Calls.{read_patch_of}
 use Rattle.records.proofs.Promises.{read_patch_count, read_patch_accepted, read_patch_long}
-use Rattle.text.specs.Lines.{Put, patch_line, row_line, last_line, refused_line}
+use Rattle.text.specs.Lines.{patch_line, row_line, last_line, refused_line}
 use Rattle.report.specs.Sizes.{table_words, steps_most}
 use Rattle.report.specs.Report.{no_walk, begun_of, walk_of, first_line, line_at, surfaces_text, end_text, end_of, walk_text, placed_text, patch_text, report_of}
 use Rattle.report.specs.Report.{refused_find, walk_find, placed_find, patch_find, find_of, line_count, line_of}
@@ -53,8 +53,8 @@ use Rattle.report.specs.FirstLines.{FirstLines}
 use Rattle.report.proofs.WalkLaws.{placing_tested, begun_started, walk_walked, rows_fit, walk_not_made, walk_full}
 use Rattle.report.proofs.LineLaws.{lines-refused, lines_end}
 
-pub part_one : (b t : List ℕ) (i j : ℕ) {u u' : List ℕ} {r r' : ℕ} → Put t 0 (over (line_of (coordinates_of b) (find_of b)) i j) u r → Put t 0 (over (line_of (coordinates_of b) (find_of b)) i j) u' r' → (r ≡ r') × (u ≡ u')
-part_one b t i j (p, e) (p', e') = (p ∙ sym p', e ∙ sym e')
+pub part_one : (b : List ℕ) (i j : ℕ) {s s' : List ℕ} → s ≡ over (line_of (coordinates_of b) (find_of b)) i j → s' ≡ over (line_of (coordinates_of b) (find_of b)) i j → s ≡ s'
+part_one b i j p q = p ∙ sym q
 
 pub parts_join : (b : List ℕ) (i j k : ℕ) → i ≤ j → j ≤ k
     → over (line_of (coordinates_of b) (find_of b)) i j ++ over (line_of (coordinates_of b) (find_of b)) j k ≡ over (line_of (coordinates_of b) (find_of b)) i k

@@ -12,14 +12,14 @@
 --   patch_text l a     so for the patch that was read; or the number that refuses the record
 --   report_of b        the report of the bytes b
 --   Find              what is known after the walk: whether surfaces are shown; else the number that is printed; where the walk ended; whether it is complete
---   read_found f t     so from the code's record and the table
+--   read_found r t     so from what `find` answers and the table: a walk that is not complete has a full table, 11
 --   refused_find n     so where a number is printed alone
 --   end_find x a, walk_find l w, placed_find l a, patch_find l a    so of a walk that ended in x with the answer a; of the walk from w; from what placing answers; from what the reader answers
 --   find_of b          so for the bytes b
 --   line_count f, line_of l f i    the lines of a report, by what is known: how many, and line i; `shown_line l x d i`: where surfaces are shown
 --
 -- Theorems: proofs/Promises. Source: document 01, "The square with its centre".
-use Rattle.std.specs.Prelude.{ℕ, ◌+◌, ◌-◌, Bool, true, false, cond, List, ◌++◌, length, replicate, ℤ, ◌==◌}
+use Rattle.std.specs.Prelude.{ℕ, ◌+◌, ◌-◌, Bool, true, false, cond, List, ◌++◌, length, replicate, ℤ, ◌==◌, Result, Ok, Err}
 use Rattle.algebra.specs.Answer.{Answer, gives, refuses}
 use Rattle.algebra.specs.Loops.{tally, over}
 use Rattle.algebra.specs.Words.{row_of}
@@ -36,7 +36,9 @@ use Rattle.records.specs.Reading.{coordinates_of}
 use Rattle.records.specs.Calls.{read_patch_of}
 use Rattle.text.specs.Lines.{patch_line, row_line, last_line, refused_line}
 use Rattle.report.specs.Sizes.{table_words, steps_most}
-use Rattle.report.specs.declared.Found.{Found}
+use Rattle.shots.specs.Refusals.{number_of}
+use Rattle.shots.specs.declared.refusal.Refusal.{Refusal}
+use Rattle.report.specs.declared.Shown.{Shown}
 
 -- ---- the walk
 
@@ -102,8 +104,9 @@ pub record Find : Type 0 where
   pub ended : Ended
   pub complete : Bool
 
-abbrev pub read_found : Found → List ℕ → Find
-read_found f t = record { shown = f.shown; number = f.number; ended = ended_in t f.walk; complete = f.done }
+abbrev pub read_found : Result Shown Refusal → List ℕ → Find
+read_found (Ok s) t = record { shown = true; number = cond s.complete 0 11; ended = ended_in t s.walk; complete = s.complete }
+read_found (Err r) t = record { shown = false; number = number_of r; ended = record { walk = no_walk; table = t }; complete = false }
 
 -- a number alone, and no walk
 abbrev pub refused_find : ℕ → Find

@@ -17,11 +17,9 @@ pub const PART_LINES: usize = 64;
 
 pub const PART_MOST: usize = PART_LINES * text::LINE_MOST;
 
-// What is known after the walk: whether surfaces are shown; else the number that is printed; where the walk ended; whether it is complete.
+// Where the walk ended, and whether it is complete; where it is not, the table is full.
 #[derive(Clone, Copy)]
-pub struct Found {
-    pub shown: bool,
-    pub number: u8,
+pub struct Shown {
     pub walk: walks::Walk,
-    pub done: bool,
+    pub complete: bool,
 }

@@ -3,130 +3,110 @@ ghost use Rattle.std.specs.Prelude.{◌<◌, ◌≤◌, length};
 
 use super::parse::NUMBERS_MOST;
 use super::{SHOTS_ROOM, VALUES_ROOM, parse, show};
+use circuits::Sides;
 use intake::Shot;
-use outline::{Facing, Lengths, Outlined};
-use shots::SHOTS_MOST;
+use outline::{Facing, Lengths};
+use shots::{COORDINATES_MOST, Handed, Refusal, SHOTS_MOST};
 use std::io;
 use std::io::Write;
-use surfaces::Surface;
 use triples::Triples;
-use walks::Walk;
+use walks::{Progress, Walk};
 
-fn accepted<W: Write>(out: &mut W, answer: shots::Accepted) -> io::Result<()> {
+// A call that gives nothing but that it is not refused.
+fn said<W: Write>(out: &mut W, word: &[u8], answer: Result<(), Refusal>) -> io::Result<()> {
     match answer {
-        shots::Accepted::Accepted => show::text(out, b" accepted"),
-        shots::Accepted::Refused(n) => show::refused(out, n),
+        Ok(()) => show::text(out, word),
+        Err(refusal) => show::refused(out, refusal),
     }
 }
 
-fn counted<W: Write>(out: &mut W, answer: shots::Counted) -> io::Result<()> {
+// A call that gives a number.
+fn numbered<W: Write>(out: &mut W, word: &[u8], answer: Result<u64, Refusal>) -> io::Result<()> {
     match answer {
-        shots::Counted::Count(k) => show::field(out, b" count ", k as u64),
-        shots::Counted::Refused(n) => show::refused(out, n),
+        Ok(number) => show::field(out, word, number),
+        Err(refusal) => show::refused(out, refusal),
     }
 }
 
-fn oriented<W: Write>(out: &mut W, answer: shots::Oriented) -> io::Result<()> {
+fn counted<W: Write>(out: &mut W, word: &[u8], answer: Result<usize, Refusal>) -> io::Result<()> {
+    numbered(out, word, answer.map(|count| count as u64))
+}
+
+fn oriented<W: Write>(out: &mut W, answer: Result<i64, Refusal>) -> io::Result<()> {
     match answer {
-        shots::Oriented::Area(x) => show::signed_field(out, b" area ", x),
-        shots::Oriented::Refused(n) => show::refused(out, n),
+        Ok(area) => show::signed_field(out, b" area ", area),
+        Err(refusal) => show::refused(out, refusal),
     }
 }
 
-fn measured<W: Write>(out: &mut W, answer: shots::Measured) -> io::Result<()> {
+fn split<W: Write>(out: &mut W, answer: Result<Sides, Refusal>) -> io::Result<()> {
     match answer {
-        shots::Measured::Area(x) => show::field(out, b" area ", x),
-        shots::Measured::Refused(n) => show::refused(out, n),
-    }
-}
-
-fn split<W: Write>(out: &mut W, answer: circuits::Split) -> io::Result<()> {
-    match answer {
-        circuits::Split::Circuit(z) => {
+        Ok(sides) => {
             show::text(out, b" sides")?;
-            show::side(out, z.plus)?;
-            show::side(out, z.minus)
+            show::side(out, sides.plus)?;
+            show::side(out, sides.minus)
         }
-        circuits::Split::Refused(n) => show::refused(out, n),
+        Err(refusal) => show::refused(out, refusal),
     }
 }
 
-fn tested<W: Write>(out: &mut W, answer: lists::Tested) -> io::Result<()> {
+fn surface<W: Write>(out: &mut W, answer: Result<Triples, Refusal>) -> io::Result<()> {
     match answer {
-        lists::Tested::Accepted => show::text(out, b" accepted"),
-        lists::Tested::Refused(n) => show::refused(out, n),
+        Ok(list) => show::list(out, list),
+        Err(refusal) => show::refused(out, refusal),
     }
 }
 
-fn surface<W: Write>(out: &mut W, answer: Surface) -> io::Result<()> {
+fn stepped<W: Write>(out: &mut W, answer: Result<Progress, Refusal>) -> io::Result<()> {
     match answer {
-        Surface::List(list) => show::list(out, list),
-        Surface::Refused(n) => show::refused(out, n),
+        Ok(Progress::Made) => show::text(out, b" made"),
+        Ok(Progress::Done) => show::text(out, b" done"),
+        Err(refusal) => show::refused(out, refusal),
     }
 }
 
-fn started<W: Write>(out: &mut W, answer: walks::Started) -> io::Result<()> {
+// Where the call is refused, the array that would hold the coordinates is printed as zeros.
+fn handed<W: Write>(out: &mut W, answer: Result<Handed, Refusal>) -> io::Result<()> {
     match answer {
-        walks::Started::Started => show::text(out, b" started"),
-        walks::Started::Refused(n) => show::refused(out, n),
+        Ok(patch) => {
+            show::field(out, b" shots ", patch.count as u64)?;
+            show::coordinates(out, &patch.coordinates)
+        }
+        Err(refusal) => {
+            show::refused(out, refusal)?;
+            show::coordinates(out, &[0; COORDINATES_MOST])
+        }
     }
 }
 
-fn stepped<W: Write>(out: &mut W, answer: walks::Stepped) -> io::Result<()> {
+fn outlined<W: Write>(out: &mut W, answer: Result<Lengths, Refusal>) -> io::Result<()> {
     match answer {
-        walks::Stepped::Made => show::text(out, b" made"),
-        walks::Stepped::Done => show::text(out, b" done"),
-        walks::Stepped::Refused(n) => show::refused(out, n),
-    }
-}
-
-fn patched<W: Write>(out: &mut W, answer: shots::Patched) -> io::Result<()> {
-    match answer {
-        shots::Patched::Shots(n) => show::field(out, b" shots ", n as u64),
-        shots::Patched::Refused(n) => show::refused(out, n),
-    }
-}
-
-fn handed<W: Write>(out: &mut W, patch: shots::Handed) -> io::Result<()> {
-    let answer = patch.answer;
-    let coordinates = patch.coordinates;
-    patched(out, answer)?;
-    show::coordinates(out, &coordinates)
-}
-
-fn written<W: Write>(out: &mut W, answer: records::Written) -> io::Result<()> {
-    match answer {
-        records::Written::Bytes(k) => show::field(out, b" bytes ", k as u64),
-        records::Written::Refused(n) => show::refused(out, n),
-    }
-}
-
-fn outlined<W: Write>(out: &mut W, answer: Outlined) -> io::Result<()> {
-    match answer {
-        Outlined::Chains(lengths) => {
+        Ok(lengths) => {
             show::field(out, b" lengths ", lengths.south as u64)?;
             show::field(out, b" ", lengths.north as u64)
         }
-        Outlined::Refused(n) => show::refused(out, n),
+        Err(refusal) => show::refused(out, refusal),
     }
 }
 
 fn list_of(low: u64, high: u64) -> Triples {
-    triples::sets::with_word(
-        triples::sets::with_word(triples::sets::none(), 0, low),
-        1,
-        high,
-    )
+    Triples { words: [low, high] }
 }
 
 // ---- the calls on shots alone
 
+// Where the call is refused, the array that would hold the signs is printed as zeros.
 fn show_cocircuit<W: Write>(out: &mut W, shots: &[i32], i: usize, j: usize) -> io::Result<()> {
-    let came = shots::cocircuit(shots, i, j);
-    let answer = came.answer;
-    let signs = came.signs;
-    accepted(out, answer)?;
-    show::signs(out, &signs)
+    match shots::cocircuit(shots, i, j) {
+        Ok(signs) => {
+            show::text(out, b" accepted")?;
+            show::signs(out, &signs)
+        }
+        Err(refusal) => {
+            show::refused(out, refusal)?;
+            show::signs(out, &[0; SHOTS_MOST])
+        }
+    }
 }
 
 // Whether the line's word is one of these; then its answer is printed.
@@ -139,7 +119,7 @@ fn of_shots<W: Write>(
     c: usize,
 ) -> io::Result<bool> {
     if parse::is(line, b"accept") {
-        accepted(out, shots::accept(shots))?;
+        said(out, b" accepted", shots::accept(shots))?;
         return Ok(true);
     }
     if parse::is(line, b"orientation") {
@@ -147,7 +127,7 @@ fn of_shots<W: Write>(
         return Ok(true);
     }
     if parse::is(line, b"double_area") {
-        measured(out, shots::double_area(shots, a, b, c))?;
+        numbered(out, b" area ", shots::double_area(shots, a, b, c))?;
         return Ok(true);
     }
     if parse::is(line, b"cocircuit") {
@@ -155,7 +135,7 @@ fn of_shots<W: Write>(
         return Ok(true);
     }
     if parse::is(line, b"border") {
-        counted(out, shots::border(shots))?;
+        counted(out, b" count ", shots::border(shots))?;
         return Ok(true);
     }
     Ok(false)
@@ -172,7 +152,7 @@ fn of_lists<W: Write>(
     z: usize,
 ) -> io::Result<bool> {
     if parse::is(line, b"circuits") {
-        counted(out, circuits::count(shots))?;
+        counted(out, b" count ", circuits::count(shots))?;
         return Ok(true);
     }
     if parse::is(line, b"circuit") {
@@ -180,7 +160,7 @@ fn of_lists<W: Write>(
         return Ok(true);
     }
     if parse::is(line, b"test") {
-        tested(out, lists::test(shots, list))?;
+        said(out, b" accepted", lists::test(shots, list))?;
         return Ok(true);
     }
     if parse::is(line, b"placing") {
@@ -203,11 +183,13 @@ fn show_start<W: Write>(
     table: &mut [u64],
     walk: Walk,
 ) -> io::Result<()> {
-    let came = walks::start_at(shots, list, table, walk);
-    let answer = came.answer;
-    let after = came.walk;
-    started(out, answer)?;
-    show::walk(out, after, table)
+    let mut walk = walk;
+    said(
+        out,
+        b" started",
+        walks::start(shots, list, table, &mut walk),
+    )?;
+    show::walk(out, walk, table)
 }
 
 fn show_step<W: Write>(
@@ -216,11 +198,9 @@ fn show_step<W: Write>(
     table: &mut [u64],
     walk: Walk,
 ) -> io::Result<()> {
-    let came = walks::step_at(shots, table, walk);
-    let answer = came.answer;
-    let after = came.walk;
-    stepped(out, answer)?;
-    show::walk(out, after, table)
+    let mut walk = walk;
+    stepped(out, walks::step(shots, table, &mut walk))?;
+    show::walk(out, walk, table)
 }
 
 fn show_run<W: Write>(
@@ -230,11 +210,9 @@ fn show_run<W: Write>(
     walk: Walk,
     b: usize,
 ) -> io::Result<()> {
-    let came = walks::run_at(shots, table, walk, b);
-    let answer = came.answer;
-    let after = came.walk;
-    stepped(out, answer)?;
-    show::walk(out, after, table)
+    let mut walk = walk;
+    stepped(out, walks::run(shots, table, &mut walk, b))?;
+    show::walk(out, walk, table)
 }
 
 fn walk_of(rows: u64, step: u64) -> Walk {
@@ -280,14 +258,6 @@ fn of_walks<W: Write>(
 
 // ---- records
 
-fn show_read_surface<W: Write>(out: &mut W, shots: &[i32], bytes: &[u8]) -> io::Result<()> {
-    let read = records::read_surface(shots, bytes);
-    let Surface::List(list) = read else {
-        return surface(out, read);
-    };
-    show::list(out, list)
-}
-
 fn of_records<W: Write>(
     out: &mut W,
     line: &[u8],
@@ -300,16 +270,16 @@ fn of_records<W: Write>(
         return Ok(true);
     }
     if parse::is(line, b"write_patch") {
-        written(out, records::write_patch(shots, bytes))?;
+        counted(out, b" bytes ", records::write_patch(shots, bytes))?;
         show::bytes(out, bytes)?;
         return Ok(true);
     }
     if parse::is(line, b"read_surface") {
-        show_read_surface(out, shots, bytes)?;
+        surface(out, records::read_surface(shots, bytes))?;
         return Ok(true);
     }
     if parse::is(line, b"write_surface") {
-        written(out, records::write_surface(shots, list, bytes))?;
+        counted(out, b" bytes ", records::write_surface(shots, list, bytes))?;
         show::bytes(out, bytes)?;
         return Ok(true);
     }
@@ -367,10 +337,7 @@ fn of_outline<W: Write>(
 
 // A shot's unit; past the run, 0.
 fn unit(units: &[u8], i: usize) -> u8 {
-    if i < units.len() {
-        return units[i];
-    }
-    0
+    units.get(i).copied().unwrap_or(0)
 }
 
 fn shot(units: &[u8], values: &[f64; VALUES_ROOM], i: usize) -> Shot
@@ -379,20 +346,15 @@ fn shot(units: &[u8], values: &[f64; VALUES_ROOM], i: usize) -> Shot
     let east = values[2 * i];
     let north = values[2 * i + 1];
     if unit(units, i) == 0 {
-        return Shot::Metres(east, north);
+        Shot::Metres(east, north)
+    } else {
+        Shot::Feet(east, north)
     }
-    Shot::Feet(east, north)
 }
 
 // The ten shots; past their run, the values are 0.
 fn ten_shots(units: &[u8], values: &[f64; VALUES_ROOM]) -> [Shot; SHOTS_MOST] {
-    let mut out = [Shot::Metres(0.0, 0.0); SHOTS_MOST];
-    let mut i = 0;
-    while i < SHOTS_MOST {
-        out[i] = shot(units, values, i);
-        i += 1;
-    }
-    out
+    std::array::from_fn(|i| shot(units, values, i))
 }
 
 // The patterns of the values stand where a table does, in the line's second run.
@@ -494,16 +456,18 @@ fn bytes_of(line: &[u8], run: usize, cells: &mut [u64], bytes: &mut [u8]) -> usi
 fn bytes_run(line: &[u8]) -> usize
     ensures { result ≤ 2 }
 {
-    if parse::is(line, b"read_patch") {
-        return 1;
+    let words: [&[u8]; 5] = [
+        b"read_patch",
+        b"south_part",
+        b"north_part",
+        b"take",
+        b"take_runs",
+    ];
+    if words.iter().any(|word| parse::is(line, *word)) {
+        1
+    } else {
+        2
     }
-    if parse::is(line, b"south_part") || parse::is(line, b"north_part") {
-        return 1;
-    }
-    if parse::is(line, b"take") || parse::is(line, b"take_runs") {
-        return 1;
-    }
-    2
 }
 
 // A case's line; a remark and an empty line are none. The cells hold each run in turn, the table last.
@@ -514,7 +478,7 @@ pub fn case<W: Write>(
     bytes: &mut [u8],
     more: &mut [u8],
 ) -> io::Result<()> {
-    if line.len() == 0 || parse::byte(line, 0) == b'#' {
+    if line.is_empty() || line.starts_with(b"#") {
         return Ok(());
     }
     let mut shots = [0i32; SHOTS_ROOM];

@@ -43,11 +43,8 @@ fn all<W: Write>(
     bytes: &mut [u8; BYTES_ROOM],
     more: &mut [u8; BYTES_ROOM],
 ) -> io::Result<()> {
-    let mut at = 0;
-    while at < stream.len() {
-        let end = parse::line_end(stream, at);
-        calls::case(out, &stream[at..end], cells, bytes, more)?;
-        at = end + 1;
+    for line in stream.split(|c| *c == b'\n') {
+        calls::case(out, line, cells, bytes, more)?;
     }
     Ok(())
 }

@@ -1,7 +1,6 @@
 // What a case prints.
-ghost use Rattle.std.specs.Prelude.{◌<◌, ◌≤◌, length};
-
-use shots::SHOTS_MOST;
+use shots::{Refusal, SHOTS_MOST};
+use std::fmt::Display;
 use std::io;
 use std::io::Write;
 use triples::Triples;
@@ -21,29 +20,14 @@ pub fn field<W: Write>(out: &mut W, s: &[u8], n: u64) -> io::Result<()> {
     number(out, n)
 }
 
-pub fn refused<W: Write>(out: &mut W, n: u8) -> io::Result<()> {
-    field(out, b" refused ", n as u64)
-}
-
-fn signed<W: Write>(out: &mut W, z: i64) -> io::Result<()> {
-    if z < 0 {
-        text(out, b"-")?;
-    }
-    number(out, shots::plane::size_of(z))
-}
-
-fn unit<W: Write>(out: &mut W, s: i8) -> io::Result<()> {
-    signed(out, s as i64)
-}
-
-fn coordinate<W: Write>(out: &mut W, x: i32) -> io::Result<()> {
-    signed(out, x as i64)
+pub fn refused<W: Write>(out: &mut W, refusal: Refusal) -> io::Result<()> {
+    field(out, b" refused ", u64::from(u8::from(refusal)))
 }
 
 // A text and a number behind it that may be negative.
 pub fn signed_field<W: Write>(out: &mut W, s: &[u8], z: i64) -> io::Result<()> {
     text(out, s)?;
-    signed(out, z)
+    write!(out, "{z}")
 }
 
 pub fn list<W: Write>(out: &mut W, t: Triples) -> io::Result<()> {
@@ -54,12 +38,10 @@ pub fn list<W: Write>(out: &mut W, t: Triples) -> io::Result<()> {
 // The shots of a mask, as digits.
 pub fn side<W: Write>(out: &mut W, mask: u16) -> io::Result<()> {
     text(out, b" ")?;
-    let mut i: usize = 0;
-    while i < SHOTS_MOST {
+    for i in 0..SHOTS_MOST {
         if triples::holding::on(mask, i) {
-            number(out, i as u64)?;
+            write!(out, "{i}")?;
         }
-        i += 1;
     }
     Ok(())
 }
@@ -82,62 +64,37 @@ fn behind<W: Write>(out: &mut W, n: usize) -> io::Result<()> {
     }
 }
 
-pub fn signs<W: Write>(out: &mut W, s: &[i8]) -> io::Result<()> {
-    let mut i = 0;
-    while i < s.len() {
+// A run of numbers.
+fn run<W: Write, T: Copy + Display>(out: &mut W, s: &[T]) -> io::Result<()> {
+    for (i, x) in s.iter().enumerate() {
         before(out, i)?;
-        unit(out, s[i])?;
-        i += 1;
+        write!(out, "{}", *x)?;
     }
     behind(out, s.len())
+}
+
+pub fn signs<W: Write>(out: &mut W, s: &[i8]) -> io::Result<()> {
+    run(out, s)
 }
 
 pub fn coordinates<W: Write>(out: &mut W, s: &[i32]) -> io::Result<()> {
-    let mut i = 0;
-    while i < s.len() {
-        before(out, i)?;
-        coordinate(out, s[i])?;
-        i += 1;
-    }
-    behind(out, s.len())
+    run(out, s)
 }
 
 pub fn bytes<W: Write>(out: &mut W, s: &[u8]) -> io::Result<()> {
-    let mut i = 0;
-    while i < s.len() {
-        before(out, i)?;
-        number(out, s[i] as u64)?;
-        i += 1;
-    }
-    behind(out, s.len())
-}
-
-// The place behind the equal words that begin at place i.
-fn alike(s: &[u64], i: usize) -> usize
-    requires { i < length s.now }
-    ensures { (i < result) × (result ≤ length s.now) }
-{
-    let mut j = i + 1;
-    while j < s.len() {
-        if s[j] != s[i] {
-            return j;
-        }
-        j += 1;
-    }
-    j
+    run(out, s)
 }
 
 // Equal words in a row are printed once, with their number.
 pub fn table<W: Write>(out: &mut W, s: &[u64]) -> io::Result<()> {
-    let mut i = 0;
-    while i < s.len() {
-        let j = alike(s, i);
+    for (i, alike) in s.chunk_by(|a, b| *a == *b).enumerate() {
         before(out, i)?;
-        number(out, s[i])?;
-        if i + 1 < j {
-            field(out, b"*", (j - i) as u64)?;
+        if let Some(word) = alike.first() {
+            number(out, *word)?;
         }
-        i = j;
+        if alike.len() > 1 {
+            field(out, b"*", alike.len() as u64)?;
+        }
     }
     behind(out, s.len())
 }

@@ -9,6 +9,7 @@
 --   patch_one         two answers with one reading are one answer
 use mathlib.Core.Path.{◌≡◌, refl, sym, ◌∙◌, ap}
 use mathlib.Core.Logic.{◌↔◌}
+use Rattle.std.proofs.Common.{Result, Ok, Err}
 use mathlib.Core.List.{List, ◌++◌}
 use Prim.Native.Nat.{ℕ, ◌*◌, ◌≤◌}
 use native.Mathlib.Omega.{arith}
@@ -19,10 +20,10 @@ use Rattle.algebra.specs.Writing.{wrote}
 use Rattle.algebra.proofs.AnswerLaws.{chain_refuses, chain_gives, chain_stop, one_answer, Unbroken, unbroken_gives, gives_unbroken}
 use Rattle.algebra.proofs.WritingLaws.{wrote_taken}
 use Rattle.shots.specs.Sizes.{shots_most, coordinates_most}
-use Rattle.shots.specs.Calls.{read_patched, PatchRead, read_patch, coordinates_with, patch_given}
-use Rattle.shots.specs.declared.Patched.{Patched}
-use Rattle.shots.specs.declared.Patched.TheVariants as P
+use Rattle.shots.specs.Calls.{PatchRead, read_patch, coordinates_with, patch_given}
 use Rattle.shots.specs.declared.Handed.{Handed}
+use Rattle.shots.specs.declared.refusal.Refusal.{Refusal}
+use Rattle.shots.proofs.RefusalLaws.{refusal_at, number_back}
 
 module _ (rs : List Rule) (n : ℕ) (l : List ℤ) where
   pub handed : {a : Answer ℕ} → a ≡ chain rs n → record { answer = a; coordinates = coordinates_with a l } ≡ patch_given rs n l
@@ -59,19 +60,16 @@ handed_stops rs ss n l e h = handed (rs ++ ss) n l (ap refuses e ∙ chain_stop 
 
 -- ---- one answer: the reading can be undone
 
-abbrev patched_as : Answer ℕ → Patched
-patched_as (gives n) = P.Shots n
-patched_as (refuses n) = P.Refused n
+abbrev patch_as : PatchRead → Result Handed Refusal
+patch_as p = go p.answer
+  where
+    go : Answer ℕ → Result Handed Refusal
+    go (gives n) = Ok (record { count = n; coordinates = p.coordinates })
+    go (refuses n) = Err (refusal_at n)
 
-patched_back : (r : Patched) → patched_as (read_patched r) ≡ r
-patched_back (P.Shots n) = refl
-patched_back (P.Refused n) = refl
+patch_back : (r : Result Handed Refusal) → patch_as (read_patch r) ≡ r
+patch_back (Ok p) = refl
+patch_back (Err e) = ap Err (number_back e)
 
-abbrev patch_as : PatchRead → Handed
-patch_as p = record { answer = patched_as p.answer; coordinates = p.coordinates }
-
-patch_back : (r : Handed) → patch_as (read_patch r) ≡ r
-patch_back r = λ t. record { answer = patched_back r.answer t; coordinates = r.coordinates }
-
-pub patch_one : {x : PatchRead} {r r' : Handed} → read_patch r ≡ x → read_patch r' ≡ x → r ≡ r'
+pub patch_one : {x : PatchRead} {r r' : Result Handed Refusal} → read_patch r ≡ x → read_patch r' ≡ x → r ≡ r'
 patch_one = one_answer read_patch patch_as patch_back

@@ -1,6 +1,7 @@
 pub mod Bounds
 pub mod Decided
 pub mod Patch
+pub mod RefusalLaws
 pub mod Chains
 pub mod Orientations
 pub mod Borders

@@ -8,10 +8,10 @@
 --   orientation_clear, cocircuit_clear                       no line holds exactly for three shots of an accepted patch, for a pair i < j of its shots
 --   cocircuit_signs, cocircuit-refused                       the array beside the answer
 --   accept_one, orientation_one, double_area_one, cocircuit_one, border_one    two permitted answers are the same
---   counted_one                                              what is read as one count is one answer
 use mathlib.Core.Path.{◌≡◌, refl, ◌∙◌, ap}
 use mathlib.Core.Logic.{◌⊎◌, inl, inr, ⊎_elim, ◌↔◌}
 use mathlib.Core.List.{List, [], ◌∷◌, ◌++◌}
+use Rattle.std.proofs.Common.{Result, Ok, Err}
 use Prim.Native.Nat.{ℕ, ◌≤◌, ◌<◌}
 use native.Mathlib.Omega.{arith}
 use lib.ListN.{replicate}
@@ -24,18 +24,12 @@ use Rattle.shots.specs.Coordinates.{area_of}
 use Rattle.shots.specs.Patch.{count_of}
 use Rattle.shots.specs.Tests.{shot_rules, refusal_of}
 use Rattle.shots.specs.Lines.{NotShot, NotPair, shot_lines, orientation_lines, cocircuit_lines}
-use Rattle.shots.specs.Calls.{read_accepted, read_oriented, read_measured, read_counted, Cocircuit, read_signs, accept_of, shots_rule, orientation_of, double_area_of, pair_rule, sign_at, signs_with, cocircuit_of, sides_of, border_call_of}
-use Rattle.shots.specs.declared.Accepted.{Accepted}
-use Rattle.shots.specs.declared.Accepted.TheVariants as A
-use Rattle.shots.specs.declared.Oriented.{Oriented}
-use Rattle.shots.specs.declared.Oriented.TheVariants as O
-use Rattle.shots.specs.declared.Measured.{Measured}
-use Rattle.shots.specs.declared.Measured.TheVariants as M
-use Rattle.shots.specs.declared.Counted.{Counted}
-use Rattle.shots.specs.declared.Counted.TheVariants as C
-use Rattle.shots.specs.declared.Signs.{Signs}
+use Rattle.shots.specs.Calls.{Cocircuit, read_signs, accept_of, shots_rule, orientation_of, double_area_of, pair_rule, sign_at, signs_with, cocircuit_of, sides_of, border_call_of}
+use Rattle.shots.specs.Refusals.{answered}
+use Rattle.shots.specs.declared.refusal.Refusal.{Refusal}
 use Rattle.shots.proofs.Decided.{count_decided, far_decided, same_decided, line_decided}
 use Rattle.shots.proofs.Chains.{shots_numbered}
+use Rattle.shots.proofs.RefusalLaws.{refusal_at, number_back, answered_one}
 
 module _ (l : List ℤ) where
   -- ---- the rules decide the lines
@@ -141,58 +135,28 @@ shots_kept l = let k = clear-refusal (shot_rules l) (shot_lines l) (shots_number
 
 -- ---- one answer: each reading can be undone
 
-abbrev accepted_as : Answer (Unit {0}) → Accepted
-accepted_as (gives v) = A.Accepted
-accepted_as (refuses n) = A.Refused n
+abbrev signs_as : Cocircuit → Result (List ℤ) Refusal
+signs_as c = go c.answer
+  where
+    go : Answer (Unit {0}) → Result (List ℤ) Refusal
+    go (gives v) = Ok c.signs
+    go (refuses n) = Err (refusal_at n)
 
-accepted_back : (r : Accepted) → accepted_as (read_accepted r) ≡ r
-accepted_back A.Accepted = refl
-accepted_back (A.Refused n) = refl
+signs_back : (r : Result (List ℤ) Refusal) → signs_as (read_signs r) ≡ r
+signs_back (Ok s) = refl
+signs_back (Err e) = ap Err (number_back e)
 
-abbrev oriented_as : Answer ℤ → Oriented
-oriented_as (gives x) = O.Area x
-oriented_as (refuses n) = O.Refused n
+pub accept_one : (l : List ℤ) (r r' : Result (Unit {0}) Refusal) → answered r ≡ accept_of l → answered r' ≡ accept_of l → r ≡ r'
+accept_one l r r' = answered_one
 
-oriented_back : (r : Oriented) → oriented_as (read_oriented r) ≡ r
-oriented_back (O.Area x) = refl
-oriented_back (O.Refused n) = refl
+pub orientation_one : (l : List ℤ) (a b c : ℕ) (r r' : Result ℤ Refusal) → answered r ≡ orientation_of l a b c → answered r' ≡ orientation_of l a b c → r ≡ r'
+orientation_one l a b c r r' = answered_one
 
-abbrev measured_as : Answer ℕ → Measured
-measured_as (gives x) = M.Area x
-measured_as (refuses n) = M.Refused n
+pub double_area_one : (l : List ℤ) (a b c : ℕ) (r r' : Result ℕ Refusal) → answered r ≡ double_area_of l a b c → answered r' ≡ double_area_of l a b c → r ≡ r'
+double_area_one l a b c r r' = answered_one
 
-measured_back : (r : Measured) → measured_as (read_measured r) ≡ r
-measured_back (M.Area x) = refl
-measured_back (M.Refused n) = refl
-
-abbrev counted_as : Answer ℕ → Counted
-counted_as (gives k) = C.Count k
-counted_as (refuses n) = C.Refused n
-
-counted_back : (r : Counted) → counted_as (read_counted r) ≡ r
-counted_back (C.Count k) = refl
-counted_back (C.Refused n) = refl
-
-abbrev signs_as : Cocircuit → Signs
-signs_as c = record { answer = accepted_as c.answer; signs = c.signs }
-
-signs_back : (r : Signs) → signs_as (read_signs r) ≡ r
-signs_back r = λ t. record { answer = accepted_back r.answer t; signs = r.signs }
-
-pub counted_one : {x : Answer ℕ} {r r' : Counted} → read_counted r ≡ x → read_counted r' ≡ x → r ≡ r'
-counted_one = one_answer read_counted counted_as counted_back
-
-pub accept_one : (l : List ℤ) (r r' : Accepted) → read_accepted r ≡ accept_of l → read_accepted r' ≡ accept_of l → r ≡ r'
-accept_one l r r' = one_answer read_accepted accepted_as accepted_back
-
-pub orientation_one : (l : List ℤ) (a b c : ℕ) (r r' : Oriented) → read_oriented r ≡ orientation_of l a b c → read_oriented r' ≡ orientation_of l a b c → r ≡ r'
-orientation_one l a b c r r' = one_answer read_oriented oriented_as oriented_back
-
-pub double_area_one : (l : List ℤ) (a b c : ℕ) (r r' : Measured) → read_measured r ≡ double_area_of l a b c → read_measured r' ≡ double_area_of l a b c → r ≡ r'
-double_area_one l a b c r r' = one_answer read_measured measured_as measured_back
-
-pub cocircuit_one : (l : List ℤ) (i j : ℕ) (r r' : Signs) → read_signs r ≡ cocircuit_of l i j → read_signs r' ≡ cocircuit_of l i j → r ≡ r'
+pub cocircuit_one : (l : List ℤ) (i j : ℕ) (r r' : Result (List ℤ) Refusal) → read_signs r ≡ cocircuit_of l i j → read_signs r' ≡ cocircuit_of l i j → r ≡ r'
 cocircuit_one l i j r r' = one_answer read_signs signs_as signs_back
 
-pub border_one : (l : List ℤ) (r r' : Counted) → read_counted r ≡ border_call_of l → read_counted r' ≡ border_call_of l → r ≡ r'
-border_one l r r' = counted_one
+pub border_one : (l : List ℤ) (r r' : Result ℕ Refusal) → answered r ≡ border_call_of l → answered r' ≡ border_call_of l → r ≡ r'
+border_one l r r' = answered_one

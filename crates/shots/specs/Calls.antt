@@ -1,7 +1,6 @@
 -- What each public call of this room answers, for every input: its contract is an equation with one of these.
 --
---   read_accepted, read_oriented, read_measured, read_counted, read_signs, read_patched
---                        the refusal number or the value of each case of a call's answer
+--   read_signs, read_patch   what a call's `Result` says where an array stands beside the answer (specs/Refusals: `answered`, of the others)
 --   accept_of l           accepted, or 1 2 3 4
 --   orientation_of l a b c   the double area of three shots, with its sign; or 1-4, 7
 --   double_area_of l a b c    the size of what `orientation` gives; or its refusal
@@ -11,12 +10,12 @@
 --   shots_rule l a b c, pair_rule l i j    7: one of three numbers is not a shot; not a pair i < j of shots
 --   sign_at l i j k, signs_with a s        the sign of place k in the cocircuit of i, j; the array that goes with an answer
 --   sides_of l j          how many i < j make a side with j
---   PatchRead            the answer of a call of a room above this one that hands out shots, how many, and the array beside it; `read_patch`: of what the code gives
+--   PatchRead            the answer of a call of a room above this one that hands out shots, how many, and the array beside it
 --   coordinates_with a l  the array that goes with an answer
 --   patch_given rs n l    what such a call answers: n shots, and their coordinates l in front of zeros; or a rule of rs, and 0 everywhere
 --
 -- Source: document 01, "Shots and orientation"; document 02, E1, E6.
-use Rattle.std.specs.Prelude.{cond, ◌||◌, List, [], ◌∷◌, ◌++◌, ℕ, leb, ltb, replicate, ℤ, pos, nat_abs}
+use Rattle.std.specs.Prelude.{cond, ◌||◌, List, [], ◌∷◌, ◌++◌, ℕ, leb, ltb, replicate, ℤ, pos, nat_abs, Result, Ok, Err}
 use Rattle.algebra.specs.Answer.{Answer, gives, refuses, on_value, Rule, chain}
 use Rattle.algebra.specs.Loops.{tabulate, tally}
 use Rattle.algebra.specs.Sign.{value}
@@ -25,55 +24,28 @@ use Rattle.shots.specs.Sizes.{shots_most, coordinates_most}
 use Rattle.shots.specs.Coordinates.{area_of}
 use Rattle.shots.specs.Patch.{count_of, orient_of, side_pair_of}
 use Rattle.shots.specs.Tests.{shot_rules}
-use Rattle.shots.specs.declared.Accepted.{Accepted}
-use Rattle.shots.specs.declared.Accepted.TheVariants as A
-use Rattle.shots.specs.declared.Oriented.{Oriented}
-use Rattle.shots.specs.declared.Oriented.TheVariants as O
-use Rattle.shots.specs.declared.Measured.{Measured}
-use Rattle.shots.specs.declared.Measured.TheVariants as M
-use Rattle.shots.specs.declared.Counted.{Counted}
-use Rattle.shots.specs.declared.Counted.TheVariants as C
-use Rattle.shots.specs.declared.Signs.{Signs}
-use Rattle.shots.specs.declared.Patched.{Patched}
-use Rattle.shots.specs.declared.Patched.TheVariants as P
+use Rattle.shots.specs.Refusals.{number_of}
+use Rattle.shots.specs.declared.refusal.Refusal.{Refusal}
 use Rattle.shots.specs.declared.Handed.{Handed}
 
--- ---- the paper's number and value of each case
-
-abbrev pub read_accepted : Accepted → Answer (Unit {0})
-read_accepted A.Accepted = gives tt
-read_accepted (A.Refused n) = refuses n
-
-abbrev pub read_oriented : Oriented → Answer ℤ
-read_oriented (O.Area x) = gives x
-read_oriented (O.Refused n) = refuses n
-
-abbrev pub read_measured : Measured → Answer ℕ
-read_measured (M.Area x) = gives x
-read_measured (M.Refused n) = refuses n
-
-abbrev pub read_counted : Counted → Answer ℕ
-read_counted (C.Count k) = gives k
-read_counted (C.Refused n) = refuses n
+-- ---- what a `Result` says where an array stands beside the answer: 0 at each of its places where the call is refused
 
 -- the answer, and the places of the array beside it
 pub record Cocircuit : Type 0 where
   pub answer : Answer (Unit {0})
   pub signs : List ℤ
 
-abbrev pub read_signs : Signs → Cocircuit
-read_signs s = record { answer = read_accepted s.answer; signs = s.signs }
-
-abbrev pub read_patched : Patched → Answer ℕ
-read_patched (P.Shots n) = gives n
-read_patched (P.Refused n) = refuses n
+abbrev pub read_signs : Result (List ℤ) Refusal → Cocircuit
+read_signs (Ok s) = record { answer = gives tt; signs = s }
+read_signs (Err r) = record { answer = refuses (number_of r); signs = replicate shots_most (pos 0) }
 
 pub record PatchRead : Type 0 where
   pub answer : Answer ℕ
   pub coordinates : List ℤ
 
-abbrev pub read_patch : Handed → PatchRead
-read_patch p = record { answer = read_patched p.answer; coordinates = p.coordinates }
+abbrev pub read_patch : Result Handed Refusal → PatchRead
+read_patch (Ok p) = record { answer = gives p.count; coordinates = p.coordinates }
+read_patch (Err r) = record { answer = refuses (number_of r); coordinates = replicate coordinates_most (pos 0) }
 
 -- the array that goes with an answer: the coordinates in front where nothing refuses
 abbrev pub coordinates_with : Answer ℕ → List ℤ → List ℤ

@@ -10,11 +10,15 @@
 #![tactic(auto)]
 
 ghost use Rattle.std.specs.Prelude.{◌≡◌};
-ghost use Rattle.shots.specs.Calls.{read_accepted, read_oriented, read_measured, read_signs, read_counted, accept_of, orientation_of, double_area_of, cocircuit_of, border_call_of};
+ghost use Rattle.shots.specs.Refusals.{answered};
+ghost use Rattle.shots.specs.Calls.{read_signs, accept_of, orientation_of, double_area_of, cocircuit_of, border_call_of};
 
 pub mod pairs;
 pub mod plane;
+mod refusal;
 pub mod tests;
+
+pub use refusal::Refusal;
 
 // A patch has this many shots at least, and at most.
 pub const SHOTS_LEAST: usize = 3;
@@ -29,114 +33,63 @@ pub const LOWEST: i32 = -1000000;
 
 pub const HIGHEST: i32 = 1000000;
 
-#[derive(Clone, Copy)]
-pub enum Accepted {
-    Accepted,
-    Refused(u8),
-}
-
-// Positive where the turn is counterclockwise.
-#[derive(Clone, Copy)]
-pub enum Oriented {
-    Area(i64),
-    Refused(u8),
-}
-
-#[derive(Clone, Copy)]
-pub enum Measured {
-    Area(u64),
-    Refused(u8),
-}
-
-#[derive(Clone, Copy)]
-pub enum Counted {
-    Count(usize),
-    Refused(u8),
-}
-
-// The signs stand beside the answer: 0 past the shots, and 0 everywhere where the call is refused.
-#[derive(Clone, Copy)]
-pub struct Signs {
-    pub answer: Accepted,
-    pub signs: [i8; SHOTS_MOST],
-}
-
-// How many shots a call hands out.
-#[derive(Clone, Copy)]
-pub enum Patched {
-    Shots(usize),
-    Refused(u8),
-}
-
-// Their coordinates stand beside the answer: 0 past the shots, and 0 everywhere where the call is refused.
+// The shots that a call hands out: how many, and their coordinates, 0 past them.
 #[derive(Clone, Copy)]
 pub struct Handed {
-    pub answer: Patched,
+    pub count: usize,
     pub coordinates: [i32; COORDINATES_MOST],
 }
 
-pub fn accept(shots: &[i32]) -> Accepted
-    ensures { read_accepted result ≡ accept_of shots.now }
+pub fn accept(shots: &[i32]) -> Result<(), Refusal>
+    ensures { answered result ≡ accept_of shots.now }
 {
-    let refusal = tests::refusal(shots);
-    if refusal != 0 {
-        return Accepted::Refused(refusal);
+    if tests::bad_count(shots) {
+        return Err(Refusal::Count);
     }
-    Accepted::Accepted
+    if tests::some_far(shots) {
+        return Err(Refusal::Far);
+    }
+    if tests::some_same(shots) {
+        return Err(Refusal::Equal);
+    }
+    if !tests::some_bent(shots) {
+        return Err(Refusal::Line);
+    }
+    Ok(())
 }
 
-pub fn orientation(shots: &[i32], a: usize, b: usize, c: usize) -> Oriented
-    ensures { read_oriented result ≡ orientation_of shots.now a b c }
+// Positive where the turn is counterclockwise.
+pub fn orientation(shots: &[i32], a: usize, b: usize, c: usize) -> Result<i64, Refusal>
+    ensures { answered result ≡ orientation_of shots.now a b c }
 {
-    let refusal = tests::refusal(shots);
-    if refusal != 0 {
-        return Oriented::Refused(refusal);
-    }
+    accept(shots)?;
     if tests::no_shot(shots.len() / 2, a, b, c) {
-        return Oriented::Refused(7);
+        return Err(Refusal::Shot);
     }
-    let area = plane::area(shots, a, b, c);
-    Oriented::Area(area)
+    Ok(plane::area(shots, a, b, c))
 }
 
-pub fn double_area(shots: &[i32], a: usize, b: usize, c: usize) -> Measured
-    ensures { read_measured result ≡ double_area_of shots.now a b c }
+pub fn double_area(shots: &[i32], a: usize, b: usize, c: usize) -> Result<u64, Refusal>
+    ensures { answered result ≡ double_area_of shots.now a b c }
 {
-    match orientation(shots, a, b, c) {
-        Oriented::Refused(number) => Measured::Refused(number),
-        Oriented::Area(signed) => Measured::Area(plane::size_of(signed)),
-    }
+    let area = orientation(shots, a, b, c)?;
+    Ok(area.unsigned_abs())
 }
 
-pub fn cocircuit(shots: &[i32], i: usize, j: usize) -> Signs
+// The sign at each shot, and 0 past them.
+pub fn cocircuit(shots: &[i32], i: usize, j: usize) -> Result<[i8; SHOTS_MOST], Refusal>
     ensures { read_signs result ≡ cocircuit_of shots.now i j }
 {
-    let refusal = tests::refusal(shots);
-    if refusal != 0 {
-        return Signs {
-            answer: Accepted::Refused(refusal),
-            signs: [0; SHOTS_MOST],
-        };
-    }
+    accept(shots)?;
     if tests::no_pair(shots.len() / 2, i, j) {
-        return Signs {
-            answer: Accepted::Refused(7),
-            signs: [0; SHOTS_MOST],
-        };
+        return Err(Refusal::Shot);
     }
-    let signs = pairs::signs_of(shots, i, j);
-    Signs {
-        answer: Accepted::Accepted,
-        signs,
-    }
+    Ok(pairs::signs_of(shots, i, j))
 }
 
-pub fn border(shots: &[i32]) -> Counted
-    ensures { read_counted result ≡ border_call_of shots.now }
+pub fn border(shots: &[i32]) -> Result<usize, Refusal>
+    ensures { answered result ≡ border_call_of shots.now }
 {
-    let refusal = tests::refusal(shots);
-    if refusal != 0 {
-        return Counted::Refused(refusal);
-    }
-    Counted::Count(pairs::side_count(shots))
+    accept(shots)?;
+    Ok(pairs::side_count(shots))
 }

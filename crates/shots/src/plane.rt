@@ -6,17 +6,11 @@ ghost use Rattle.shots.specs.Coordinates.{area_of};
 ghost use Rattle.shots.specs.Patch.{count_of, orient_of, between_of};
 ghost use Rattle.shots.specs.Tests.{Near};
 
-fn wide(x: i32) -> i64
-    ensures { result ≡ x }
-{
-    x as i64
-}
-
 // The difference of two coordinates.
 fn diff(x: i32, y: i32) -> i64
     ensures { result ≡ x -ℤ y }
 {
-    wide(x) - wide(y)
+    i64::from(x) - i64::from(y)
 }
 
 // The difference of the coordinates at two places of the run.
@@ -51,13 +45,7 @@ pub fn area(shots: &[i32], a: usize, b: usize, c: usize) -> i64
 fn sign_of(x: i64) -> i8
     ensures { result ≡ value (sign_of x) }
 {
-    if 0 < x {
-        return 1;
-    }
-    if x < 0 {
-        return -1;
-    }
-    0
+    x.signum() as i8
 }
 
 // The sign of the double area of three shots.
@@ -68,19 +56,12 @@ pub fn sign(shots: &[i32], a: usize, b: usize, c: usize) -> i8
     sign_of(area(shots, a, b, c))
 }
 
-// How far a number is from 0. By way of -1 - x, since 0 - x does not fit for the least number.
-pub fn size_of(x: i64) -> u64
-    ensures { result ≡ nat_abs x }
-{
-    if x < 0 { (-1 - x) as u64 + 1 } else { x as u64 }
-}
-
 // The size of the double area of three shots.
 pub fn size(shots: &[i32], a: usize, b: usize, c: usize) -> u64
     requires { (a < count_of shots.now) × (b < count_of shots.now) × (c < count_of shots.now) × Near shots.now }
     ensures { result ≡ nat_abs (area_of shots.now a b c) }
 {
-    size_of(area(shots, a, b, c))
+    area(shots, a, b, c).unsigned_abs()
 }
 
 // Of three shots on a line: whether m lies strictly between a and b. The product of the two ways from m is negative.

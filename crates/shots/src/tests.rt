@@ -7,40 +7,25 @@ ghost use Rattle.shots.specs.Tests.{Near, bad_count, some_far, same_at, same_bef
 
 use super::{HIGHEST, LOWEST, SHOTS_LEAST, SHOTS_MOST, plane};
 
-fn bad_count(shots: &[i32]) -> bool
+#[tactic(auto, unfolding(crate::specs::Tests::bad_count))]
+pub fn bad_count(shots: &[i32]) -> bool
     ensures { result ≡ bad_count shots.now }
 {
     let n = shots.len() / 2;
-    if shots.len() % 2 == 1 {
-        return true;
-    }
-    if n < SHOTS_LEAST {
-        return true;
-    }
-    SHOTS_MOST < n
+    shots.len() % 2 == 1 || n < SHOTS_LEAST || SHOTS_MOST < n
 }
 
 // Whether a coordinate is beyond its range.
 fn beyond(x: i32) -> bool
     ensures { result ≡ ltb farthest (nat_abs x) }
 {
-    if x < LOWEST {
-        return true;
-    }
-    HIGHEST < x
+    x < LOWEST || HIGHEST < x
 }
 
-fn some_far(shots: &[i32]) -> bool
+pub fn some_far(shots: &[i32]) -> bool
     ensures { result ≡ some_far shots.now }
 {
-    let mut i = 0;
-    while i < shots.len() {
-        if beyond(shots[i]) {
-            return true;
-        }
-        i += 1;
-    }
-    false
+    shots.iter().any(|x| beyond(*x))
 }
 
 // Whether the coordinates at two places of the run are the same.
@@ -52,46 +37,29 @@ pub fn same(shots: &[i32], i: usize, j: usize) -> bool
 }
 
 // Whether shots i and j are equal.
+#[tactic(auto, unfolding(crate::specs::Tests::same_at, crate::specs::Coordinates::x_of, crate::specs::Coordinates::y_of))]
 fn same_at(shots: &[i32], j: usize, i: usize) -> bool
     requires { (j < count_of shots.now) × (i < count_of shots.now) }
     ensures { result ≡ same_at shots.now j i }
 {
-    if same(shots, 2 * i, 2 * j) {
-        same(shots, 2 * i + 1, 2 * j + 1)
-    } else {
-        false
-    }
+    same(shots, 2 * i, 2 * j) && same(shots, 2 * i + 1, 2 * j + 1)
 }
 
 fn same_before(shots: &[i32], j: usize) -> bool
     requires { j < count_of shots.now }
     ensures { result ≡ same_before shots.now j }
 {
-    let mut i = 0;
-    while i < j {
-        if same_at(shots, j, i) {
-            return true;
-        }
-        i += 1;
-    }
-    false
+    (0..j).any(|i| same_at(shots, j, i))
 }
 
-fn some_same(shots: &[i32]) -> bool
+pub fn some_same(shots: &[i32]) -> bool
     ensures { result ≡ some_same shots.now }
 {
-    let n = shots.len() / 2;
-    let mut j = 0;
-    while j < n {
-        if same_before(shots, j) {
-            return true;
-        }
-        j += 1;
-    }
-    false
+    (0..shots.len() / 2).any(|j| same_before(shots, j))
 }
 
 // Whether three shots are not on one line.
+#[tactic(auto, unfolding(crate::specs::Tests::bent_at))]
 fn bent_at(shots: &[i32], c: usize, b: usize, a: usize) -> bool
     requires { (a < count_of shots.now) × (b < count_of shots.now) × (c < count_of shots.now) × Near shots.now }
     ensures { result ≡ bent_at shots.now c b a }
@@ -103,86 +71,33 @@ fn bent_of(shots: &[i32], c: usize, b: usize) -> bool
     requires { (b < c) × (c < count_of shots.now) × Near shots.now }
     ensures { result ≡ bent_of shots.now c b }
 {
-    let mut a = 0;
-    while a < b {
-        if bent_at(shots, c, b, a) {
-            return true;
-        }
-        a += 1;
-    }
-    false
+    (0..b).any(|a| bent_at(shots, c, b, a))
 }
 
 fn bent_before(shots: &[i32], c: usize) -> bool
     requires { (c < count_of shots.now) × Near shots.now }
     ensures { result ≡ bent_before shots.now c }
 {
-    let mut b = 0;
-    while b < c {
-        if bent_of(shots, c, b) {
-            return true;
-        }
-        b += 1;
-    }
-    false
+    (0..c).any(|b| bent_of(shots, c, b))
 }
 
-fn some_bent(shots: &[i32]) -> bool
+pub fn some_bent(shots: &[i32]) -> bool
     requires { Near shots.now }
     ensures { result ≡ some_bent shots.now }
 {
-    let n = shots.len() / 2;
-    let mut c = 0;
-    while c < n {
-        if bent_before(shots, c) {
-            return true;
-        }
-        c += 1;
-    }
-    false
-}
-
-// The number that refuses the run, 1 to 4, or 0.
-pub fn refusal(shots: &[i32]) -> u8
-    ensures { result ≡ refusal_of shots.now }
-{
-    if bad_count(shots) {
-        return 1;
-    }
-    if some_far(shots) {
-        return 2;
-    }
-    if some_same(shots) {
-        return 3;
-    }
-    if some_bent(shots) {
-        return 0;
-    }
-    4
+    (0..shots.len() / 2).any(|c| bent_before(shots, c))
 }
 
 // Whether one of three numbers is not a shot, of n.
 pub fn no_shot(n: usize, a: usize, b: usize, c: usize) -> bool
     ensures { result ≡ (leb n a || (leb n b || leb n c)) }
 {
-    if n <= a {
-        return true;
-    }
-    if n <= b {
-        return true;
-    }
-    n <= c
+    n <= a || n <= b || n <= c
 }
 
 // Whether i, j is not a pair of shots in order, of n.
 pub fn no_pair(n: usize, i: usize, j: usize) -> bool
     ensures { result ≡ (leb n i || (leb n j || leb j i)) }
 {
-    if n <= i {
-        return true;
-    }
-    if n <= j {
-        return true;
-    }
-    j <= i
+    n <= i || n <= j || j <= i
 }

@@ -29,6 +29,7 @@ pub fn load<R: Read>(input: &mut R, room: &mut [u8]) -> io::Result<usize>
     ensures bytes { IfOk result (λ n. Consumes (R.remaining input.old) (R.remaining input.new) (take n room.new)) }
     ensures end { IfOk result (λ n. n < length room.new → IsAtEnd (R.remaining input.new)) }
 {
+    // how many came is the answer, so the loop keeps that, and not the rest of the room
     let mut done = 0;
     while done < room.len() {
         let n = read_some(input, &mut room[done..])?;
@@ -58,13 +59,14 @@ pub fn put<W: Write>(out: &mut W, text: &[u8]) -> io::Result<()>
     ensures all { OnOk result (Appends (W.contents out.old) (W.contents out.new) text.now) }
     ensures front { OnErr result (StopsShort (W.contents out.old) (W.contents out.new) text.now) }
 {
-    let mut done = 0;
-    while done < text.len() {
-        let n = write_some(out, &text[done..])?;
+    // `write_all` of std does not say what is written where it fails
+    let mut rest = text;
+    while !rest.is_empty() {
+        let n = write_some(out, rest)?;
         if n == 0 {
             return Err(io::Error::from(ErrorKind::WriteZero));
         }
-        done += n;
+        rest = &rest[n..];
     }
     Ok(())
 }

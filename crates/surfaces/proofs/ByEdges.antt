@@ -4,7 +4,7 @@
 --   corner_ranked                       the triple of i, j and m has a rank
 --   corner-rank                         the only triple that holds i, j and m is the one of them
 --   corner-put                          a list joined with the triples that hold i, j and m has that triple put in
---   sign-nought, sign_turned, signs-opposed    the code's test of two signs is `opposed`
+--   signs_fit, signs-opposed            the code's test of two signs is `opposed`
 --   first_off_low                       the third of the first three shots comes after 0 and 1
 --   begin_corner                        the triples that hold these three are the list that begins
 --   LoneAcross l w m i j v              v is the only third shot of i and j, and m lies across the edge from it; `visible_lone`: `visible` decides that there is one
@@ -12,13 +12,14 @@
 --   third_decided                       `third_in` decides that three shots are a triple of the list
 --   by_sees                             the code's test of an edge is `visible`
 --   with_edge_yes, with_edge_no         a list with the triple of a visible edge, and without
-use Rattle.std.specs.Prelude.{◌≡◌, ℕ, zero, suc, ◌*◌, ◌<◌, ◌≤◌, Bool, true, false, not, ◌&&◌, ◌||◌, eqb, ◌⊎◌, List, [], ◌∷◌, length, replicate, ℤ, pos, ◌-ℤ◌}
+use Rattle.std.specs.Prelude.{◌≡◌, ℕ, zero, suc, ◌*◌, ◌<◌, ◌≤◌, Bool, true, false, not, ◌&&◌, ◌||◌, eqb, ◌⊎◌, List, [], ◌∷◌, length, replicate, ℤ, pos, ◌*ℤ◌}
 use mathlib.Core.Path.{refl, sym, ◌∙◌, ap, subst}
 use mathlib.Core.Logic.{inl, inr, ⊎_elim}
 use mathlib.Core.Bool.{true≢false, false≢true}
 use native.Mathlib.Omega.{arith}
 use native.Mathlib.Decide.{dec_lt}
-use borrow.Author.Tests.{eqb-true, eq-eqb, ne_eqb}
+use borrow.Author.Tests.{eqb-true, eq-eqb}
+use lib.Signed.{lt_z}
 use mir.Syntax.{w8}
 use mir.Val.{SFits, to_z, of_z}
 use Rattle.algebra.specs.Answer.{Reflects}
@@ -27,8 +28,7 @@ use Rattle.algebra.specs.Sets.{is_on, On, Within}
 use Rattle.algebra.specs.Sign.{Sign, minus, nought, plus, opposite, value, is_nought, same_sign}
 use Rattle.algebra.specs.Words.{word_bits, Words, member, put_in, both_of, either_of, meets_of, alone_of}
 use Rattle.algebra.proofs.SignLaws.{zero-sign_of}
-use Rattle.algebra.proofs.SizeLaws.{signs_same, sign_is_nought}
-use Rattle.algebra.proofs.AnswerLaws.{reflects_yes, reflects_true, reflects_agree, reflects_iff, reflects-not, reflects-and, reflects_eqb, is-nought}
+use Rattle.algebra.proofs.AnswerLaws.{reflects_yes, reflects_true, reflects_agree, reflects_iff, reflects-not, reflects-and, reflects_eqb}
 use Rattle.algebra.proofs.LoopLaws.{and_parts, any_some, any_no, reflects-any, reflects_test, reflects_alone, first_passes, first_least}
 use Rattle.algebra.proofs.SetTests.{reflects_on, union_within, on_low, subset-length, subset_same}
 use Rattle.algebra.proofs.UnionLaws.{on_one, on_pair, union_apart, union_meets, third_last}
@@ -152,38 +152,37 @@ opposed-nought s t (inr e) = ap (opposed s) e ∙ none s
 opposed-signed : (s t : Sign) → opposed s t ≡ true → (s ≡ nought → ⊥) × (t ≡ nought → ⊥)
 opposed-signed s t h = (λ e. false≢true (sym (opposed-nought s t (inl e)) ∙ h), λ e. false≢true (sym (opposed-nought s t (inr e)) ∙ h))
 
--- the code's tests of two signs as -1, 0 or 1: the first is 0; 0 less the second; the first is that
-pub sign-nought : {x : ℤ} (s t : Sign) → x ≡ value s → of_z w8 x ≡ 0 → false ≡ opposed s t
-sign-nought {x} s t e z = sym (opposed-nought s t (inl (reflects_yes (is-nought s) (sym (sign_is_nought x s e) ∙ eq-eqb (of_z w8 x) 0 z))))
-
-turned-value : (t : Sign) → pos 0 -ℤ to_z w8 (of_z w8 (value t)) ≡ value (opposite t)
-unfolding value opposite
-turned-value minus = refl
-turned-value nought = refl
-turned-value plus = refl
-
-signed-opposed : (s t : Sign) → is_nought s ≡ false → same_sign (opposite t) s ≡ opposed s t
-unfolding opposite
-signed-opposed minus minus h = refl
-signed-opposed minus nought h = refl
-signed-opposed minus plus h = refl
-signed-opposed nought t h = absurd (true≢false h)
-signed-opposed plus minus h = refl
-signed-opposed plus nought h = refl
-signed-opposed plus plus h = refl
-
-value_fits : (t : Sign) → SFits w8 (value t)
+-- the code's test of two signs as -1, 0 or 1: their product is below 0
+product_fits : (s t : Sign) → SFits w8 (to_z w8 (of_z w8 (value s)) *ℤ to_z w8 (of_z w8 (value t)))
 unfolding value
-value_fits minus = record { sfits = omega arith }
-value_fits nought = record { sfits = omega arith }
-value_fits plus = record { sfits = omega arith }
+product_fits minus minus = record { sfits = omega arith }
+product_fits minus nought = record { sfits = omega arith }
+product_fits minus plus = record { sfits = omega arith }
+product_fits nought minus = record { sfits = omega arith }
+product_fits nought nought = record { sfits = omega arith }
+product_fits nought plus = record { sfits = omega arith }
+product_fits plus minus = record { sfits = omega arith }
+product_fits plus nought = record { sfits = omega arith }
+product_fits plus plus = record { sfits = omega arith }
 
-pub sign_turned : {y : ℤ} (t : Sign) → y ≡ value t → SFits w8 (pos 0 -ℤ to_z w8 (of_z w8 y))
-sign_turned t e = rw (e, turned-value t) (value_fits (opposite t))
+product-opposed : (s t : Sign) → lt_z (to_z w8 (of_z w8 (to_z w8 (of_z w8 (value s)) *ℤ to_z w8 (of_z w8 (value t))))) (pos 0) ≡ opposed s t
+unfolding value opposite
+product-opposed minus minus = refl
+product-opposed minus nought = refl
+product-opposed minus plus = refl
+product-opposed nought minus = refl
+product-opposed nought nought = refl
+product-opposed nought plus = refl
+product-opposed plus minus = refl
+product-opposed plus nought = refl
+product-opposed plus plus = refl
 
-pub signs-opposed : {x y : ℤ} (s t : Sign) → x ≡ value s → y ≡ value t → (of_z w8 x ≡ 0 → ⊥) → eqb (of_z w8 x) (of_z w8 (pos 0 -ℤ to_z w8 (of_z w8 y))) ≡ opposed s t
-signs-opposed {x} {y} s t e f ne =
-    signs_same (opposite t) s (ap (λ (z : ℤ). pos 0 -ℤ to_z w8 (of_z w8 z)) f ∙ turned-value t) e ∙ signed-opposed s t (sym (sign_is_nought x s e) ∙ ne_eqb (of_z w8 x) 0 ne)
+module _ {x y : ℤ} (s t : Sign) (e : x ≡ value s) (f : y ≡ value t) where
+  pub signs_fit : SFits w8 (to_z w8 (of_z w8 x) *ℤ to_z w8 (of_z w8 y))
+  signs_fit = rw (e, f) (product_fits s t)
+
+  pub signs-opposed : lt_z (to_z w8 (of_z w8 (to_z w8 (of_z w8 x) *ℤ to_z w8 (of_z w8 y)))) (pos 0) ≡ opposed s t
+  signs-opposed = rw (e, f) (product-opposed s t)
 
 -- ---- the first three shots
 

@@ -14,3 +14,4 @@ pub mod FourLaws
 pub mod ByStars
 pub mod FlipLoops
 pub mod CallChains
+pub mod Chains

@@ -27,7 +27,7 @@ use Rattle.algebra.specs.Loops.{any_of}
 use Rattle.algebra.specs.Sets.{is_on}
 use Rattle.algebra.specs.Sign.{Sign, minus, nought, plus, opposite, Side}
 use Rattle.algebra.specs.Words.{word_bits, Words, member}
-use Rattle.algebra.proofs.AnswerLaws.{one_answer, chain_refuses, chain_gives, chain_refuses_upon, chain_gives_upon, decides-append, clear-append}
+use Rattle.algebra.proofs.AnswerLaws.{chain_refuses, chain_gives, chain_refuses_upon, chain_gives_upon, decides-append, clear-append}
 use Rattle.algebra.proofs.AnswerLaws.{reflects_yes, reflects_true, reflects_false, reflects_iff, reflects-not, reflects-or, reflects_leb}
 use Rattle.algebra.proofs.SignLaws.{plus-nought, minus-nought, opposite-opposite, other-side, nought-side}
 use Rattle.algebra.proofs.WordLaws.{member_past}
@@ -57,9 +57,13 @@ use Rattle.lists.proofs.Agreement.{listed_at, list_decided, accepted_iff_triangu
 use Rattle.surfaces.specs.Flips.{pieces_of, some_link, supports, joins, exchanged, flipped_of}
 use Rattle.surfaces.specs.Placing.{placed_of}
 use Rattle.surfaces.specs.Lines.{NoFlip, flip_lines}
-use Rattle.surfaces.specs.Calls.{read_surface, placing_of, no_flip, flip_rules, flip_of}
-use Rattle.surfaces.specs.declared.Surface.{Surface}
-use Rattle.surfaces.specs.declared.Surface.TheVariants as S
+use Rattle.std.proofs.Common.{Result}
+use Rattle.shots.specs.Refusals.{answer_of}
+use Rattle.shots.specs.declared.refusal.Refusal.{Refusal}
+use Rattle.shots.proofs.RefusalLaws.{answer_one}
+use Rattle.triples.specs.Sets.{words_of}
+use Rattle.triples.specs.declared.Triples.{Triples}
+use Rattle.surfaces.specs.Calls.{placing_of, no_flip, flip_rules, flip_of}
 use Rattle.surfaces.proofs.Agreement.{side_of, swapped, numbered, supports_published, star_published, star_dec}
 use Rattle.surfaces.proofs.Agreement.{flip_published_side, exchanged_words, exchanged_past, one_flip}
 use Rattle.surfaces.proofs.PlacedWords.{placed_words}
@@ -279,22 +283,14 @@ module _ (l : List ℤ) where
       (flip_published w' w z v' v).1 (c, a', h, ⊎_elim (λ g. inr (back plus (inl refl) g)) (λ g. inl (back minus (inr refl) g)) f, a.0)
 
 -- ---- one answer
+abbrev triples_of : List ℕ → Triples
+triples_of w = record { words = w }
 
-abbrev surface_as : Answer (List ℕ) → Surface
-surface_as (gives []) = S.Refused 0
-surface_as (gives (a ∷ [])) = S.Refused 0
-surface_as (gives (a ∷ b ∷ w)) = S.List (record { low = a; high = b })
-surface_as (refuses n) = S.Refused n
+pub surface_one : {x : Answer (List ℕ)} {r r' : Result Triples Refusal} → answer_of words_of r ≡ x → answer_of words_of r' ≡ x → r ≡ r'
+surface_one = answer_one words_of triples_of (λ t. refl)
 
-surface_back : (r : Surface) → surface_as (read_surface r) ≡ r
-surface_back (S.List t) = refl
-surface_back (S.Refused n) = refl
-
-pub surface_one : {x : Answer (List ℕ)} {r r' : Surface} → read_surface r ≡ x → read_surface r' ≡ x → r ≡ r'
-surface_one = one_answer read_surface surface_as surface_back
-
-pub flip_one : (l : List ℤ) (w : List ℕ) (z : ℕ) (r r' : Surface) → read_surface r ≡ flip_of l w z → read_surface r' ≡ flip_of l w z → r ≡ r'
+pub flip_one : (l : List ℤ) (w : List ℕ) (z : ℕ) (r r' : Result Triples Refusal) → answer_of words_of r ≡ flip_of l w z → answer_of words_of r' ≡ flip_of l w z → r ≡ r'
 flip_one l w z r r' = surface_one
 
-pub placing_one : (l : List ℤ) (r r' : Surface) → read_surface r ≡ placing_of l → read_surface r' ≡ placing_of l → r ≡ r'
+pub placing_one : (l : List ℤ) (r r' : Result Triples Refusal) → answer_of words_of r ≡ placing_of l → answer_of words_of r' ≡ placing_of l → r ≡ r'
 placing_one l r r' = surface_one

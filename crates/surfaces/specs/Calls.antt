@@ -1,27 +1,19 @@
 -- What the public calls of this room answer, for every input: a list, as its words, or a refusal number.
 --
---   read_surface      the refusal number or the words of each case of an answer
 --   placing_of l      the placing surface; or 1-4
 --   flip_of l w z     the list flipped along circuit z; or 1-4, 7 10 8 9, 12 13
 --   no_flip l w z     13: neither side's pieces are supported; `flip_rules l w z`: 12 13
 --
 -- That every list given is a triangulation of the patch, with no test of it: proofs/Promises. Source: document 01, "The placing surface", "Flips".
 use Rattle.std.specs.Prelude.{ℕ, not, ◌||◌, List, [], ◌∷◌, ◌++◌, ℤ}
-use Rattle.algebra.specs.Answer.{Answer, gives, refuses, Rule, chain}
+use Rattle.algebra.specs.Answer.{Answer, Rule, chain}
 use Rattle.shots.specs.Patch.{count_of}
 use Rattle.shots.specs.Tests.{shot_rules}
 use Rattle.circuits.specs.Sides.{TwoSides}
 use Rattle.circuits.specs.Calls.{circuit_at, circuit_rule}
-use Rattle.triples.specs.Sets.{words_of}
 use Rattle.lists.specs.Tests.{list_rules}
 use Rattle.surfaces.specs.Flips.{pieces_of, supports, flipped_of}
 use Rattle.surfaces.specs.Placing.{placed_of}
-use Rattle.surfaces.specs.declared.Surface.{Surface}
-use Rattle.surfaces.specs.declared.Surface.TheVariants as S
-
-abbrev pub read_surface : Surface → Answer (List ℕ)
-read_surface (S.List t) = gives (words_of t)
-read_surface (S.Refused n) = refuses n
 
 unfoldable pub placing_of : List ℤ → Answer (List ℕ)
 placing_of l = chain (shot_rules l) (placed_of l)

@@ -4,3 +4,4 @@ pub mod Areas
 pub mod Lines
 pub mod Calls
 pub mod Stars
+pub mod NearFact

@@ -9,11 +9,12 @@
 --   turned_by n x t u w    the list with the star t taken out, and what belongs to the same link in the star u put in
 --   found_by n x t u w     the list w supports the pieces of one of the stars t and u
 --   flipped_by n x t u w   the list turned from t to u where t is supported, else from u to t where u is, else as it is
---   found_answer f w       the list w that a flip found; or 13 where it found none
+--   taken_by b w           the list w where b holds, and else none
+--   found_answer o         the list that a flip found; or 13 where it found none
 --
 -- That this is the flip of specs/Flips: proofs/ByStars, proofs/CallChains.
-use Rattle.std.specs.Prelude.{◌≡◌, ℕ, Bool, cond, not, ◌&&◌, ◌||◌, List, [], ◌∷◌, nat_lt}
-use Rattle.algebra.specs.Answer.{Answer, chain}
+use Rattle.std.specs.Prelude.{◌≡◌, ℕ, Bool, Option, Some, None, cond, not, ◌&&◌, ◌||◌, List, nat_lt}
+use Rattle.algebra.specs.Answer.{Answer, gives, refuses}
 use Rattle.algebra.specs.Loops.{any}
 use Rattle.algebra.specs.Sets.{is_on, bit}
 use Rattle.algebra.specs.Words.{clear_bit, sift, both_of, either_of, less_of, meets_of, inside_of}
@@ -50,5 +51,10 @@ found_by n x t u w = supported_by n x t w || supported_by n x u w
 abbrev pub flipped_by : ℕ → ℕ → List ℕ → List ℕ → List ℕ → List ℕ
 flipped_by n x t u w = cond (supported_by n x t w) (turned_by n x t u w) (cond (supported_by n x u w) (turned_by n x u t w) w)
 
-unfoldable pub found_answer : Bool → List ℕ → Answer (List ℕ)
-found_answer f w = chain (record { number = 13; broken = not f } ∷ []) w
+-- the list w where there is a flip
+abbrev pub taken_by : Bool → List ℕ → Option (List ℕ)
+taken_by b w = cond b (Some w) None
+
+abbrev pub found_answer : Option (List ℕ) → Answer (List ℕ)
+found_answer None = refuses 13
+found_answer (Some w) = gives w

@@ -7,14 +7,14 @@ ghost use Rattle.triples.specs.Sets.{words_of};
 ghost use Rattle.triples.specs.Ranks.{triple_count, triple_at};
 ghost use Rattle.surfaces.specs.Areas.{triple_area_of, area_sum_of};
 
-use triples::Triples;
+use triples::{Triples, ranks, sets};
 
 // The double area of the triple of rank r.
 fn of_rank(shots: &[i32], r: usize) -> u64
     requires { Near shots.now × (count_of shots.now ≤ shots_most) × (r < triple_count (count_of shots.now)) }
     ensures { (result ≡ triple_area_of shots.now (triple_at (count_of shots.now) r)) × (result ≤ 8 * farthest * farthest) }
 {
-    let s = triples::ranks::triple_at(shots.len() / 2, r);
+    let s = ranks::triple_at(shots.len() / 2, r);
     shots::plane::size(shots, s.i, s.j, s.k)
 }
 
@@ -23,12 +23,9 @@ pub fn sum(shots: &[i32], list: Triples) -> u64
     requires { Near shots.now × (count_of shots.now ≤ shots_most) }
     ensures { result ≡ area_sum_of shots.now (words_of list) }
 {
-    let count = triples::ranks::count(shots.len() / 2);
-    let mut sum = 0;
-    let mut r = triples::sets::from(list, 0);
-    while r < count {
-        sum += of_rank(shots, r);
-        r = triples::sets::from(list, r + 1);
-    }
-    sum
+    let count = ranks::count(shots.len() / 2);
+    (0..count)
+        .filter(|r| sets::has(list, *r))
+        .map(|r| of_rank(shots, r))
+        .sum()
 }

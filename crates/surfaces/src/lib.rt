@@ -8,71 +8,58 @@
 
 ghost use Rattle.std.specs.Prelude.{◌≡◌};
 ghost use Rattle.triples.specs.Sets.{words_of};
-ghost use Rattle.surfaces.specs.Calls.{read_surface, placing_of, flip_of};
+ghost use Rattle.shots.specs.Refusals.{answer_of};
+ghost use Rattle.surfaces.specs.Calls.{placing_of, flip_of};
 
-use circuits::CIRCUITS_MOST;
+use arrayvec::ArrayVec;
+use holders::Holders;
+use lists::kernel::Held;
 use lists::{HELD_WORDS, kernel};
-use shots::SHOTS_MOST;
+use shots::{Refusal, SHOTS_MOST};
 use triples::{Triples, WORDS};
 
 pub mod areas;
 pub mod flips;
+pub mod holders;
 pub mod placed;
 
 // The words of a table that has a row for each shot.
 const HOLDING_WORDS: usize = WORDS * SHOTS_MOST;
 
-#[derive(Clone, Copy)]
-pub enum Surface {
-    List(Triples),
-    Refused(u8),
-}
-
-pub fn placing(shots: &[i32]) -> Surface
-    ensures { read_surface result ≡ placing_of shots.now }
+pub fn placing(shots: &[i32]) -> Result<Triples, Refusal>
+    ensures { answer_of words_of result ≡ placing_of shots.now }
 {
-    let refusal = shots::tests::refusal(shots);
-    if refusal != 0 {
-        return Surface::Refused(refusal);
-    }
-    let mut held = [0u64; HOLDING_WORDS];
-    triples::holding::fill(shots.len() / 2, &mut held);
-    Surface::List(placed::all(shots, &held))
-}
-
-pub fn flip(shots: &[i32], list: Triples, z: usize) -> Surface
-    ensures { read_surface result ≡ flip_of shots.now (words_of list) z }
-{
-    let refusal = shots::tests::refusal(shots);
-    if refusal != 0 {
-        return Surface::Refused(refusal);
-    }
-    let mut plus = [0u16; CIRCUITS_MOST];
-    let mut minus = [0u16; CIRCUITS_MOST];
-    let mut held = [0u64; HELD_WORDS];
-    let count = kernel::prepare(shots, &mut plus, &mut minus, &mut held);
-    let number = kernel::refusal(shots, &held, count, list);
-    if number != 0 {
-        return Surface::Refused(number);
-    }
-    if count <= z {
-        return Surface::Refused(12);
-    }
+    shots::accept(shots)?;
     let n = shots.len() / 2;
-    let p = plus[z];
-    let m = minus[z];
-    let x = p + m;
-    let turned = flips::between(
-        &held,
-        n,
+    let mut held = [0u64; HOLDING_WORDS];
+    triples::holding::fill(n, &mut held);
+    Ok(placed::all(shots, Holders { held: &held, n }))
+}
+
+pub fn flip(shots: &[i32], list: Triples, z: usize) -> Result<Triples, Refusal>
+    ensures { answer_of words_of result ≡ flip_of shots.now (words_of list) z }
+{
+    shots::accept(shots)?;
+    let mut held = Held {
+        circuits: ArrayVec::new(),
+        rows: [0; HELD_WORDS],
+    };
+    kernel::prepare(shots, &mut held);
+    kernel::accept(shots, &held, list)?;
+    let Some(side) = held.circuits.get(z) else {
+        return Err(Refusal::Circuit);
+    };
+    let x = side.plus + side.minus;
+    let holders = Holders {
+        held: &held.rows,
+        n: shots.len() / 2,
+    };
+    flips::between(
+        holders,
         x,
-        flips::star(&held, n, p, x),
-        flips::star(&held, n, m, x),
+        flips::star(holders, side.plus, x),
+        flips::star(holders, side.minus, x),
         list,
-    );
-    if !turned.found {
-        return Surface::Refused(13);
-    }
-    let next = turned.list;
-    Surface::List(next)
+    )
+    .ok_or(Refusal::Flip)
 }

@@ -1,14 +1,23 @@
 // The placing surface, shot by shot.
-ghost use Rattle.std.specs.Prelude.{◌≡◌, ◌*◌, ◌<◌, ◌≤◌, ◌&&◌, length};
+ghost use Rattle.std.specs.Prelude.{◌≡◌, ◌<◌, ◌≤◌, ◌&&◌};
 ghost use Rattle.algebra.specs.Words.{both_of, meets_of};
-ghost use Rattle.shots.specs.Sizes.{shots_most};
 ghost use Rattle.shots.specs.Patch.{count_of, orient_of};
 ghost use Rattle.shots.specs.Tests.{Near, refusal_of};
-ghost use Rattle.triples.specs.Sizes.{word_count};
-ghost use Rattle.triples.specs.Sets.{words_of, holders_of, Holding};
-ghost use Rattle.surfaces.specs.Placing.{first_off, opposed, visible, with_edge, with_edges, place_shot, place_next, placed_of};
+ghost use Rattle.triples.specs.Sets.{words_of, holders_of};
+ghost use Rattle.surfaces.specs.NearFact.{near_fact};
+ghost use Rattle.surfaces.specs.Placing.{first_off, opposed, visible, place_shot, placed_of};
 
-use triples::Triples;
+use super::holders::Holders;
+use triples::{Triples, sets};
+
+// A patch as its shots are placed: the shots, and the triples by the shots that they hold.
+#[derive(Clone, Copy)]
+struct Ground<'a> {
+    shots: &'a [i32],
+    held: Holders<'a>,
+    ghost near: { Near shots.now } by { near_fact shots.now },
+    ghost counted: { held.n ≡ count_of shots.now },
+}
 
 // The smallest shot that is not on the line of shots 0 and 1.
 fn first_off(shots: &[i32]) -> usize
@@ -16,156 +25,73 @@ fn first_off(shots: &[i32]) -> usize
     ensures { result ≡ first_off shots.now }
 {
     let n = shots.len() / 2;
-    let mut k = 0;
-    while k < n {
-        if shots::plane::sign(shots, 0, 1, k) != 0 {
-            return k;
-        }
-        k += 1;
-    }
-    n
+    (0..n)
+        .position(|k| shots::plane::sign(shots, 0, 1, k) != 0)
+        .unwrap_or(n)
 }
 
 // Whether v makes a triple with an edge i, j, one of the given ones, and v and m are strictly on opposite sides of it.
-fn across(
-    shots: &[i32],
-    held: &[u64],
-    edge: Triples,
-    m: usize,
-    i: usize,
-    j: usize,
-    v: usize,
-) -> bool
-    requires { (i < count_of shots.now) × (j < count_of shots.now) × (m < count_of shots.now) × (v < count_of shots.now) × Near shots.now × (count_of shots.now ≤ shots_most) × (word_count * count_of shots.now ≤ length held.now) × Holding (count_of shots.now) held.now }
-    ensures { result ≡ (meets_of (words_of edge) (holders_of (count_of shots.now) v) && opposed (orient_of shots.now i j v) (orient_of shots.now i j m)) }
+fn across(ground: Ground, edge: Triples, m: usize, i: usize, j: usize, v: usize) -> bool
+    requires { (i < ground.held.n) × (j < ground.held.n) × (m < ground.held.n) × (v < ground.held.n) }
+    ensures { result ≡ (meets_of (words_of edge) (holders_of (count_of ground.entry.shots.now) v) && opposed (orient_of ground.entry.shots.now i j v) (orient_of ground.entry.shots.now i j m)) }
 {
-    if !triples::sets::meets(edge, triples::rows::row_at(held, v)) {
-        return false;
-    }
-    let here = shots::plane::sign(shots, i, j, v);
-    if here == 0 {
-        return false;
-    }
-    here == 0 - shots::plane::sign(shots, i, j, m)
+    sets::meets(edge, ground.held.row(v))
+        && shots::plane::sign(ground.shots, i, j, v) * shots::plane::sign(ground.shots, i, j, m) < 0
 }
 
 // The triples that hold i and j.
-fn edge(held: &[u64], n: usize, i: usize, j: usize) -> Triples
-    requires { (i < n) × (j < n) × (n ≤ shots_most) × (word_count * n ≤ length held.now) × Holding n held.now }
-    ensures { words_of result ≡ both_of (holders_of n i) (holders_of n j) }
+fn edge(held: Holders, i: usize, j: usize) -> Triples
+    requires { (i < held.n) × (j < held.n) }
+    ensures { words_of result ≡ both_of (holders_of held.entry.n i) (holders_of held.entry.n j) }
 {
-    triples::sets::both(
-        triples::rows::row_at(held, i),
-        triples::rows::row_at(held, j),
-    )
+    sets::both(held.row(i), held.row(j))
 }
 
 // Whether i, j is an edge of exactly one triple of the list, and m lies strictly on the other side from its third shot.
-fn sees(shots: &[i32], held: &[u64], list: Triples, m: usize, i: usize, j: usize) -> bool
-    requires { (i < j) × (j < count_of shots.now) × (m < count_of shots.now) × Near shots.now × (count_of shots.now ≤ shots_most) × (word_count * count_of shots.now ≤ length held.now) × Holding (count_of shots.now) held.now }
-    ensures { result ≡ visible shots.now (words_of list) m i j }
+fn sees(ground: Ground, list: Triples, m: usize, i: usize, j: usize) -> bool
+    requires { (i < j) × (j < ground.held.n) × (m < ground.held.n) }
+    ensures { result ≡ visible ground.entry.shots.now (words_of list) m i j }
 {
-    let n = shots.len() / 2;
-    let star = triples::sets::both(edge(held, n, i, j), list);
-    if !triples::sets::alone(star) {
-        return false;
-    }
-    let mut v = 0;
-    while v < n {
-        if across(shots, held, star, m, i, j, v) {
-            return true;
-        }
-        v += 1;
-    }
-    false
+    let star = sets::both(edge(ground.held, i, j), list);
+    sets::alone(star) && (0..ground.held.n).any(|v| across(ground, star, m, i, j, v))
 }
 
 // The triple of three shots, as a set.
-fn corner(held: &[u64], n: usize, i: usize, j: usize, m: usize) -> Triples
-    requires { (i < n) × (j < n) × (m < n) × (n ≤ shots_most) × (word_count * n ≤ length held.now) × Holding n held.now }
-    ensures { words_of result ≡ both_of (both_of (holders_of n i) (holders_of n j)) (holders_of n m) }
+fn corner(held: Holders, i: usize, j: usize, m: usize) -> Triples
+    requires { (i < held.n) × (j < held.n) × (m < held.n) }
+    ensures { words_of result ≡ both_of (both_of (holders_of held.entry.n i) (holders_of held.entry.n j)) (holders_of held.entry.n m) }
 {
-    triples::sets::both(edge(held, n, i, j), triples::rows::row_at(held, m))
-}
-
-// The list so far with the triple of m and the edge i, j, where m sees that edge of the list.
-fn with_edge(
-    shots: &[i32],
-    held: &[u64],
-    list: Triples,
-    m: usize,
-    j: usize,
-    i: usize,
-    so_far: Triples,
-) -> Triples
-    requires { (i < j) × (j < count_of shots.now) × (m < count_of shots.now) × Near shots.now × (count_of shots.now ≤ shots_most) × (word_count * count_of shots.now ≤ length held.now) × Holding (count_of shots.now) held.now }
-    ensures { words_of result ≡ with_edge shots.now (words_of list) m j i (words_of so_far) }
-{
-    if sees(shots, held, list, m, i, j) {
-        return triples::sets::either(so_far, corner(held, shots.len() / 2, i, j, m));
-    }
-    so_far
-}
-
-// The same for each edge to j from a smaller shot.
-fn with_edges(
-    shots: &[i32],
-    held: &[u64],
-    list: Triples,
-    m: usize,
-    j: usize,
-    so_far: Triples,
-) -> Triples
-    requires { (j < count_of shots.now) × (m < count_of shots.now) × Near shots.now × (count_of shots.now ≤ shots_most) × (word_count * count_of shots.now ≤ length held.now) × Holding (count_of shots.now) held.now }
-    ensures { words_of result ≡ with_edges shots.now (words_of list) m j (words_of so_far) }
-{
-    let mut t = so_far;
-    let mut i = 0;
-    while i < j {
-        t = with_edge(shots, held, list, m, j, i, t);
-        i += 1;
-    }
-    t
+    sets::both(edge(held, i, j), held.row(m))
 }
 
 // The list with m joined to every edge that it sees.
-fn place(shots: &[i32], held: &[u64], list: Triples, m: usize) -> Triples
-    requires { (m < count_of shots.now) × Near shots.now × (count_of shots.now ≤ shots_most) × (word_count * count_of shots.now ≤ length held.now) × Holding (count_of shots.now) held.now }
-    ensures { words_of result ≡ place_shot shots.now (words_of list) m }
+fn place(ground: Ground, list: Triples, m: usize) -> Triples
+    requires { m < ground.held.n }
+    ensures { words_of result ≡ place_shot ground.entry.shots.now (words_of list) m }
 {
-    let n = shots.len() / 2;
     let mut t = list;
-    let mut j = 0;
-    while j < n {
-        t = with_edges(shots, held, list, m, j, t);
-        j += 1;
+    for j in 0..ground.held.n {
+        for i in 0..j {
+            if sees(ground, list, m, i, j) {
+                t = sets::either(t, corner(ground.held, i, j, m));
+            }
+        }
     }
     t
 }
 
-// The next shot is placed, but for the three that come first.
-fn next(shots: &[i32], held: &[u64], off: usize, m: usize, list: Triples) -> Triples
-    requires { (off ≡ first_off shots.now) × (m < count_of shots.now) × Near shots.now × (count_of shots.now ≤ shots_most) × (word_count * count_of shots.now ≤ length held.now) × Holding (count_of shots.now) held.now }
-    ensures { words_of result ≡ place_next shots.now m (words_of list) }
-{
-    if m == 0 || m == 1 || m == off {
-        return list;
-    }
-    place(shots, held, list, m)
-}
-
-// Every shot is placed, in increasing number.
-pub fn all(shots: &[i32], held: &[u64]) -> Triples
-    requires { (refusal_of shots.now ≡ 0) × (word_count * count_of shots.now ≤ length held.now) × Holding (count_of shots.now) held.now }
+// Every shot is placed, in increasing number; 0, 1 and the first one off their line make the first triple.
+pub fn all(shots: &[i32], held: Holders) -> Triples
+    requires { (refusal_of shots.now ≡ 0) × (held.n ≡ count_of shots.now) }
     ensures { words_of result ≡ placed_of shots.now }
 {
-    let n = shots.len() / 2;
+    let ground = Ground { shots, held };
     let off = first_off(shots);
-    let mut t = corner(held, n, 0, 1, off);
-    let mut m = 0;
-    while m < n {
-        t = next(shots, held, off, m, t);
-        m += 1;
+    let mut t = corner(held, 0, 1, off);
+    for m in 2..held.n {
+        if m != off {
+            t = place(ground, t, m);
+        }
     }
     t
 }

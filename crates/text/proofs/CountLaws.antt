@@ -4,6 +4,7 @@
 use mathlib.Core.Path.{◌≡◌, sym, ◌∙◌}
 use Prim.Native.Nat.{ℕ, ◌*◌, ◌≤◌, ◌<◌}
 use native.Mathlib.Omega.{arith}
+use lib.ListN.{length}
 use Rattle.algebra.specs.Sets.{is_on}
 use Rattle.algebra.specs.Words.{word_bits, member, meets_of}
 use Rattle.algebra.proofs.AnswerLaws.{reflects_agree, reflects_iff}
@@ -16,13 +17,13 @@ use Rattle.triples.specs.declared.Triples.{Triples}
 use Rattle.lists.proofs.ByWords.{both_some, room, on_ranked, member_holders}
 use Rattle.text.specs.Lines.{uses_of}
 
-pub uses_held : (n k : ℕ) (t : Triples) → n ≤ shots_most → meets_of (words_of t) (holders_of n k) ≡ uses_of n (words_of t) k
+pub uses_held : (n k : ℕ) (t : Triples) → length (words_of t) ≡ word_count → n ≤ shots_most → meets_of (words_of t) (holders_of n k) ≡ uses_of n (words_of t) k
 unfolding uses_of
-uses_held n k t h =
+uses_held n k t w h =
     reflects_agree (meets_reflects (words_of t) (holders_of n k))
     (reflects_iff (
-      λ q. let l = low q.0 q.1 in (q.0, l, q.2, member_holders n k q.0 l ∙ q.3),
-      λ q. let o = sym (member_holders n k q.0 q.1) ∙ q.3 in (q.0, on_ranked n q.0 k o, q.2, o),
+      λ q. let l = low q.0 q.1 in (q.0, (let z : q.0 < word_bits * length (words_of t) = omega (arith, l) in z), q.2, member_holders n k q.0 l ∙ q.3),
+      λ q. let o = sym (member_holders n k q.0 (let z : q.0 < word_bits * word_count = omega (arith, q.1) in z)) ∙ q.3 in (q.0, on_ranked n q.0 k o, q.2, o),
     )
     (both_some (member (words_of t)) (λ r. is_on k (triple_at n r)) (triple_count n)))
   where

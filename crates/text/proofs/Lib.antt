@@ -1,3 +1,3 @@
-pub mod PutLaws
+pub mod PartLaws
 pub mod DecimalLaws
 pub mod CountLaws

@@ -1,6 +1,5 @@
 -- The lines that `patchwalk` prints, as text: lists of character codes.
 --
---   Put t at s u r       the text s was put at place at of t, which is now u; r is the place behind it
 --   uses_of n w k         shot k is used: a triple of the list w has it
 --   used_of n w           how many of n shots are used
 --   triple_text s         a blank, and the shots of a triple as digits; `shots_text s`: the digits
@@ -13,16 +12,13 @@
 --   refused_line k        the one line of a refused patch
 --
 -- Source: document 01, "The square with its centre".
-use Rattle.std.specs.Prelude.{◌≡◌, Bool, cond, ◌&&◌, List, [], ◌∷◌, ◌++◌, ℕ, ◌+◌, length}
+use Rattle.std.specs.Prelude.{Bool, cond, ◌&&◌, List, [], ◌∷◌, ◌++◌, ℕ, ◌+◌}
 use Rattle.algebra.specs.Loops.{any, tally, over}
 use Rattle.algebra.specs.Sets.{is_on}
 use Rattle.algebra.specs.Words.{member}
-use Rattle.algebra.specs.Writing.{wrote, ascii, decimal_of}
+use Rattle.algebra.specs.Writing.{ascii, decimal_of}
 use Rattle.triples.specs.Ranks.{triple_count, triple_at}
 use Rattle.triples.specs.Sets.{size_of}
-
-abbrev pub Put : List ℕ → ℕ → List ℕ → List ℕ → ℕ → Type 0
-Put t at s u r = (r ≡ at + length s) × (u ≡ wrote t at s)
 
 -- ---- what a row's line tells of its list
 

@@ -1,4 +1,4 @@
--- The sizes of this room; src/lib.rt has the same as constants.
+-- The sizes of this room; src/lib.rt has line_most as a constant.
 --
 --   decimal_most     the digits of the largest 64-bit number
 --   line_most        no line is longer: three numbers, 120 triples, and what stands between them

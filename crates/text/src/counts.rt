@@ -12,13 +12,7 @@ pub fn used(held: &[u64], n: usize, list: Triples) -> usize
     requires { (n ≤ shots_most) × (word_count * n ≤ length held.now) × Holding n held.now }
     ensures { (result ≡ used_of n (words_of list)) × (result ≤ n) }
 {
-    let mut count = 0;
-    let mut k = 0;
-    while k < n {
-        if sets::meets(list, rows::row_at(held, k)) {
-            count += 1;
-        }
-        k += 1;
-    }
-    count
+    (0..n)
+        .filter(|k| sets::meets(list, rows::row_at(held, *k)))
+        .count()
 }

@@ -1,103 +1,127 @@
-// The lines. Each has room for the longest.
-ghost use Rattle.std.specs.Prelude.{◌≡◌, ◌++◌, ◌+◌, ◌*◌, ◌≤◌, ◌<◌, length};
+// The lines, each put behind a text with room for the longest.
+ghost use Rattle.std.specs.Prelude.{◌≡◌, ◌++◌, ◌+◌, ◌*◌, ◌≤◌, ◌<◌, [], ◌∷◌, length};
+ghost use Rattle.arrayvec.specs.ArrayString.{array_string_len};
 ghost use Rattle.algebra.specs.Writing.{decimal_of};
 ghost use Rattle.shots.specs.Sizes.{shots_most};
 ghost use Rattle.triples.specs.Sizes.{word_count, triples_most};
 ghost use Rattle.triples.specs.Ranks.{triple_count, triple_at};
 ghost use Rattle.triples.specs.Sets.{words_of, Holding};
 ghost use Rattle.text.specs.Sizes.{decimal_most, line_most};
-ghost use Rattle.text.specs.Lines.{Put, triple_text, triples_text, patch_line, row_line, end_word, last_line, refused_line};
+ghost use Rattle.text.specs.Lines.{triple_text, triples_text, patch_line, row_line, end_word, last_line, refused_line};
 
 use super::{counts, put};
+use arrayvec::ArrayString;
 use triples::{Triples, holding, ranks, sets};
 
 // The first line: shots, circuits, sides, double area.
-pub fn patch(
-    out: &mut [u8],
-    at: usize,
+#[tactic(auto, unfolding(crate::specs::Lines::patch_line))]
+pub fn patch<const N: usize>(
+    out: &mut ArrayString<N>,
     n: usize,
     circuits: usize,
     border: usize,
     area: u64,
-) -> usize
-    requires { at + line_most ≤ length out.old }
-    ensures { Put out.old at (patch_line n circuits border area) out.new result × (result ≤ at + line_most) }
+)
+    requires { array_string_len out.old + line_most ≤ N }
+    ensures text { out.new.bytes ≡ out.old.bytes ++ patch_line n circuits border area }
+    ensures len { array_string_len out.new ≤ array_string_len out.old + line_most }
 {
-    let a = put::field(out, at, b"patch ", n as u64);
-    let b = put::field(out, a, b" circuits ", circuits as u64);
-    let c = put::field(out, b, b" border ", border as u64);
-    let d = put::field(out, c, b" area2 ", area);
-    put::bytes(out, d, b"\n")
+    put::field(out, "patch ", n as u64);
+    put::field(out, " circuits ", circuits as u64);
+    put::field(out, " border ", border as u64);
+    put::field(out, " area2 ", area);
+    out.push_str("\n");
+}
+
+// A shot, which is one digit.
+fn digit<const N: usize>(out: &mut ArrayString<N>, shot: usize)
+    requires { (shot < shots_most) × (array_string_len out.old + 1 ≤ N) }
+    ensures text { out.new.bytes ≡ out.old.bytes ++ (48 + shot) ∷ [] }
+    ensures len { array_string_len out.new ≡ array_string_len out.old + 1 }
+{
+    out.push(char::from(b'0' + shot as u8));
 }
 
 // A blank, and the shots of the triple of rank r.
-fn triple(out: &mut [u8], at: usize, n: usize, r: usize) -> usize
-    requires { (n ≤ shots_most) × (r < triple_count n) × (at + 4 ≤ length out.old) }
-    ensures { Put out.old at (triple_text (triple_at n r)) out.new result × (result ≡ at + 4) }
+#[tactic(auto, using(triples::proofs::RankLaws::triple_shots), unfolding(crate::specs::Lines::triple_text, crate::specs::Lines::shots_text))]
+fn triple<const N: usize>(out: &mut ArrayString<N>, n: usize, r: usize)
+    requires { (n ≤ shots_most) × (r < triple_count n) × (array_string_len out.old + 4 ≤ N) }
+    ensures text { out.new.bytes ≡ out.old.bytes ++ triple_text (triple_at n r) }
+    ensures len { array_string_len out.new ≡ array_string_len out.old + 4 }
 {
     let s = ranks::triple_at(n, r);
-    out[at] = b' ';
-    out[at + 1] = b'0' + s.i as u8;
-    out[at + 2] = b'0' + s.j as u8;
-    out[at + 3] = b'0' + s.k as u8;
-    at + 4
+    out.push_str(" ");
+    digit(out, s.i);
+    digit(out, s.j);
+    digit(out, s.k);
 }
 
 // The triples of the list, in the order of their ranks.
-fn triples_of(out: &mut [u8], at: usize, n: usize, list: Triples) -> usize
-    requires { (n ≤ shots_most) × (at + 4 * triples_most ≤ length out.old) }
-    ensures { Put out.old at (triples_text n (words_of list)) out.new result × (result ≤ at + 4 * triples_most) }
+#[tactic(auto, using(triples::proofs::RankLaws::triples_few), unfolding(crate::specs::Lines::triples_text))]
+fn triples_of<const N: usize>(out: &mut ArrayString<N>, n: usize, list: Triples)
+    requires { (n ≤ shots_most) × (array_string_len out.old + 4 * triples_most ≤ N) }
+    ensures text { out.new.bytes ≡ out.old.bytes ++ triples_text n (words_of list) }
+    ensures len { array_string_len out.new ≤ array_string_len out.old + 4 * triples_most }
 {
     let count = ranks::count(n);
-    let mut next = at;
+    // not a range of ranks: `from` steps over those that are not in the list
     let mut r = sets::from(list, 0);
     while r < count {
-        next = triple(out, next, n, r);
+        triple(out, n, r);
         r = sets::from(list, r + 1);
     }
-    next
 }
 
 // The line of row p: row, triples, shots used, triples.
-pub fn row(out: &mut [u8], at: usize, held: &[u64], n: usize, p: usize, list: Triples) -> usize
-    requires { (n ≤ shots_most) × (word_count * n ≤ length held.now) × Holding n held.now × (at + line_most ≤ length out.old) }
-    ensures { Put out.old at (row_line n p (words_of list)) out.new result × (result ≤ at + line_most) }
+#[tactic(auto, unfolding(crate::specs::Lines::row_line))]
+pub fn row<const N: usize>(
+    out: &mut ArrayString<N>,
+    held: &[u64],
+    n: usize,
+    p: usize,
+    list: Triples,
+)
+    requires { (n ≤ shots_most) × (word_count * n ≤ length held.now) × Holding n held.now × (array_string_len out.old + line_most ≤ N) }
+    ensures text { out.new.bytes ≡ out.old.bytes ++ row_line n p (words_of list) }
+    ensures len { array_string_len out.new ≤ array_string_len out.old + line_most }
 {
     let size = holding::size(n, list);
     let used = counts::used(held, n, list);
-    let a = put::decimal(out, at, p as u64);
-    let b = put::field(out, a, b" ", size as u64);
-    let c = put::field(out, b, b" ", used as u64);
-    let d = triples_of(out, c, n, list);
-    put::bytes(out, d, b"\n")
+    put::decimal(out, p as u64);
+    put::field(out, " ", size as u64);
+    put::field(out, " ", used as u64);
+    triples_of(out, n, list);
+    out.push_str("\n");
 }
 
 // The last line: how the walk ended, rows and steps.
-pub fn last(out: &mut [u8], at: usize, done: bool, rows: usize, steps: usize) -> usize
-    requires { at + line_most ≤ length out.old }
-    ensures { Put out.old at (last_line done rows steps) out.new result × (result ≤ at + line_most) }
+#[tactic(auto, unfolding(crate::specs::Lines::last_line))]
+pub fn last<const N: usize>(out: &mut ArrayString<N>, done: bool, rows: usize, steps: usize)
+    requires { array_string_len out.old + line_most ≤ N }
+    ensures text { out.new.bytes ≡ out.old.bytes ++ last_line done rows steps }
+    ensures len { array_string_len out.new ≤ array_string_len out.old + line_most }
 {
-    let a = ending(out, at, done, rows as u64);
-    let b = put::field(out, a, b" ", steps as u64);
-    put::bytes(out, b, b"\n")
+    put::field(out, end(done), rows as u64);
+    put::field(out, " ", steps as u64);
+    out.push_str("\n");
 }
 
-fn ending(out: &mut [u8], at: usize, done: bool, rows: u64) -> usize
-    requires { at + 5 + decimal_most ≤ length out.old }
-    ensures { Put out.old at (end_word done ++ decimal_of rows) out.new result × (result ≤ at + 5 + decimal_most) }
+// How the walk ended.
+#[tactic(auto, unfolding(crate::specs::Lines::end_word))]
+fn end(done: bool) -> &'static str
+    ensures word { result.now ≡ end_word done }
+    ensures len { length result.now ≡ 5 }
 {
-    if done {
-        put::field(out, at, b"done ", rows)
-    } else {
-        put::field(out, at, b"full ", rows)
-    }
+    if done { "done " } else { "full " }
 }
 
 // The one line of a refused patch.
-pub fn refused(out: &mut [u8], at: usize, number: u8) -> usize
-    requires { at + line_most ≤ length out.old }
-    ensures { Put out.old at (refused_line number) out.new result × (result ≤ at + line_most) }
+#[tactic(auto, unfolding(crate::specs::Lines::refused_line))]
+pub fn refused<const N: usize>(out: &mut ArrayString<N>, number: u8)
+    requires { array_string_len out.old + line_most ≤ N }
+    ensures text { out.new.bytes ≡ out.old.bytes ++ refused_line number }
+    ensures len { array_string_len out.new ≤ array_string_len out.old + line_most }
 {
-    let a = put::field(out, at, b"refused ", number as u64);
-    put::bytes(out, a, b"\n")
+    put::field(out, "refused ", u64::from(number));
+    out.push_str("\n");
 }

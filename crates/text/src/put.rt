@@ -1,39 +1,29 @@
-// Text and numbers put at a place of a buffer.
-ghost use Rattle.std.specs.Prelude.{◌++◌, ◌+◌, ◌≤◌, length};
+// Numbers put behind a text.
+ghost use Rattle.std.specs.Prelude.{◌≡◌, ◌++◌, ◌+◌, ◌≤◌, length};
+ghost use Rattle.arrayvec.specs.ArrayString.{array_string_len};
 ghost use Rattle.algebra.specs.Writing.{decimal_of};
 ghost use Rattle.text.specs.Sizes.{decimal_most};
-ghost use Rattle.text.specs.Lines.{Put};
 
-use super::DECIMAL_MOST;
-
-// The text, as it is.
-pub fn bytes(out: &mut [u8], at: usize, text: &[u8]) -> usize
-    requires { at + length text.now ≤ length out.old }
-    ensures { Put out.old at text.now out.new result }
-{
-    let mut i = 0;
-    while i < text.len() {
-        out[at + i] = text[i];
-        i += 1;
-    }
-    at + text.len()
-}
+use arrayvec::ArrayString;
+use itoa::Buffer;
 
 // A number in decimal digits.
-pub fn decimal(out: &mut [u8], at: usize, n: u64) -> usize
-    requires { at + decimal_most ≤ length out.old }
-    ensures { Put out.old at (decimal_of n) out.new result × (result ≤ at + decimal_most) }
+#[tactic(auto, using(crate::proofs::DecimalLaws::decimal_same))]
+pub fn decimal<const N: usize>(out: &mut ArrayString<N>, n: u64)
+    requires { array_string_len out.old + decimal_most ≤ N }
+    ensures text { out.new.bytes ≡ out.old.bytes ++ decimal_of n }
+    ensures len { array_string_len out.new ≤ array_string_len out.old + decimal_most }
 {
-    let mut digits = [0u8; DECIMAL_MOST];
-    let k = io::decimal(n, &mut digits);
-    bytes(out, at, &digits[..k])
+    let mut digits = Buffer::new();
+    out.push_str(digits.format(n));
 }
 
-// A text and a number behind it.
-pub fn field(out: &mut [u8], at: usize, text: &[u8], n: u64) -> usize
-    requires { at + length text.now + decimal_most ≤ length out.old }
-    ensures { Put out.old at (text.now ++ decimal_of n) out.new result × (result ≤ at + length text.now + decimal_most) }
+// A word and a number behind it.
+pub fn field<const N: usize>(out: &mut ArrayString<N>, word: &str, n: u64)
+    requires { array_string_len out.old + length word.now + decimal_most ≤ N }
+    ensures text { out.new.bytes ≡ out.old.bytes ++ (word.now ++ decimal_of n) }
+    ensures len { array_string_len out.new ≤ array_string_len out.old + length word.now + decimal_most }
 {
-    let next = bytes(out, at, text);
-    decimal(out, next, n)
+    out.push_str(word);
+    decimal(out, n);
 }

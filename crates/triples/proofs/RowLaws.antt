@@ -1,20 +1,49 @@
--- A loop that writes the rows of a table from row a on, one after the other, and the rows that stand below.
+-- Rows of a table. A loop that writes the rows of a table from row a on, one after the other, and the rows that stand below.
 --
+--   row_is, row_put    a row is a part of the table; that part written is the row written
 --   written_none, written_more, written_end    where it begins, one row more, where it ends
 --   put_below      a row is written: those below it stay
 --   rows_kept      where the rows below a stay, so does what is known of the first n, for n up to a
 use mathlib.Core.Path.{◌≡◌, refl, sym, ◌∙◌, ap}
 use mathlib.Core.Logic.{⊎_elim}
 use mathlib.Core.List.{List}
-use Prim.Native.Nat.{ℕ, ◌+◌, ◌*◌, ◌<◌, ◌≤◌}
+use Prim.Native.Nat.{ℕ, zero, suc, ◌+◌, ◌-◌, ◌*◌, ◌<◌, ◌≤◌}
 use native.Mathlib.Omega.{arith}
 use native.Mathlib.Numerals.{add-one}
-use lib.ListN.{length}
+use lib.ListN.{length, get_or, set}
+use lib.Seq.{paste, paste-zero, paste-suc, ext_get_or}
+use borrow.Rule.Slice.PartMut.{put_mid}
+use Rattle.std.specs.List.{between}
+use Rattle.std.proofs.lemmas.List.Edits.{length-between, get_or-between}
+use Rattle.std.proofs.lemmas.Slice.{put_mid-paste}
+use Rattle.algebra.specs.Loops.{fold}
 use Rattle.algebra.specs.Words.{row_of, set_row}
 use Rattle.algebra.proofs.LoopLaws.{last}
-use Rattle.algebra.proofs.WordLaws.{set_row-length, row_same, row_other}
+use Rattle.algebra.proofs.WordLaws.{row-length, row_at, set_row-length, row_same, row_other}
 use Rattle.triples.specs.Sizes.{word_count}
 use Rattle.triples.specs.Sets.{Rows, SameBelow, Written}
+
+-- ---- a row as a part of the table
+
+pub row_is : (k : ℕ) (t : List ℕ) (p : ℕ) → k * p + k ≤ length t → between (k * p) (k * p + k) t ≡ row_of k t p
+row_is k t p h =
+    ext_get_or 0 (between (k * p) (k * p + k) t) (row_of k t p) (long ∙ sym (row-length k t p))
+    (λ i l. let u : i < k = omega (arith, long) in get_or-between t (k * p) (k * p + k) i 0 (omega arith) ∙ sym (row_at k t p i u))
+  where
+    long : length (between (k * p) (k * p + k) t) ≡ k
+    long = omega (arith, length-between t (k * p) (k * p + k) h)
+
+-- the first n words of w, written from place a on, one after the other
+pasted : (a : ℕ) (t w : List ℕ) (n : ℕ) → a + n ≤ length t → n ≤ length w → fold (λ i u. set u (a + i) (get_or w i 0)) t n ≡ paste t a w n
+unfolding fold
+pasted a t w zero h l = paste-zero t a w
+pasted a t w (suc n) h l = ap (λ (u : List ℕ). set u (a + n) (get_or w n 0)) (pasted a t w n (omega arith) (omega arith)) ∙ paste-suc t a w n 0 (omega arith) (omega arith)
+
+pub row_put : (t : List ℕ) (p : ℕ) (w : List ℕ) {v : List ℕ} → v ≡ w → length w * p + length w ≤ length t → put_mid (length w * p) (length w * p + length w - length w * p) t v ≡ set_row t p w
+unfolding set_row
+row_put t p w e h = put_mid-paste (length w * p) _ t _ w (length w) e (omega arith) refl ∙ sym (pasted (length w * p) t w (length w) h (omega arith))
+
+-- ---- a loop over the rows
 
 module _ (a : ℕ) (f : ℕ → List ℕ) where
   pub written_none : (t : List ℕ) → Written a 0 f t t

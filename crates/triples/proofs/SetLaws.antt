@@ -1,34 +1,45 @@
--- What the loops over the words of a set of triples have done so far, and what they end with.
+-- Two sets of triples taken together, word by word.
 --
---   words-of                  the words of the code's list
+--   words-of                  the words of a set that a call takes, by what it knows of its argument (`c.well_formed`)
 --   Bitwise op g              the operation op on words does g to each bit
 --   and_bitwise, or_bitwise, less_bitwise    and, or, and with not
---   Combining op v w i u      the words of u before word i are op of those of v and w; from there on u has yet to be written
---   combining-begin, combining-turn, combining_end    where such a loop begins, one turn more, where it ends
+--   same_words                the test of words one by one is the test of lists
+--   each_op                   the words of op of the words of two sets, one by one, are the set that g makes of them
 use mathlib.Core.Path.{◌≡◌, refl, sym, ◌∙◌, ap, subst}
 use mathlib.Core.Bool.{Bool, not, ◌||◌, ◌&&◌}
-use mathlib.Core.List.{List}
-use Prim.Native.Nat.{ℕ, zero, suc, ◌+◌, ◌-◌, ◌^◌, ◌<◌, ◌≤◌}
+use mathlib.Core.List.{List, [], ◌∷◌}
+use Prim.Native.Nat.{ℕ, zero, suc, ◌-◌, ◌^◌, ◌<◌}
 use native.Mathlib.Omega.{arith}
-use native.Mathlib.Decide.{dec_lt, ℕ_discrete}
+use native.Mathlib.Decide.{dec_lt}
 use lib.Bits.{bit_and, bit_or, and_lt, or_lt}
-use lib.ListN.{length, get_or, set, length-set, get_or-eq_default}
-use lib.Seq.{get_or-set_same, get_or-set_other}
-use Rattle.algebra.specs.Sets.{bit}
+use lib.ListN.{length, get_or, get_or-eq_default}
+use mir.Val.{Val}
+use denote.Array.{each, array_val}
+use denote.Builtin.{u64}
+use denote.Shadow.{shadow}
+use Rattle.algebra.specs.Sets.{bit, same_list}
+use lib.Pointwise.{pointwise}
+use lib.Dec.{eqb}
 use Rattle.algebra.specs.Words.{word_bits, Words, member, sift}
+use Rattle.algebra.specs.Loops.{tabulate}
+use Rattle.algebra.proofs.LoopLaws.{length-tabulate, get_d_tabulate}
 use Rattle.algebra.proofs.BitOps.{bit-and, bit-or, bit_not}
 use Rattle.algebra.proofs.WordLaws.{combined}
 use Rattle.triples.specs.Sizes.{word_count}
 use Rattle.triples.specs.Sets.{words_of}
 use Rattle.triples.specs.declared.Triples.{Triples}
 
-pub words-of : (t : Triples) → t.low < 2 ^ word_bits → t.high < 2 ^ word_bits → Words word_count (words_of t)
-words-of t h l = (refl, at)
-  where
-    at : (i : ℕ) → get_or (words_of t) i 0 < 2 ^ word_bits
-    at zero = h
-    at (suc zero) = l
-    at (suc (suc i)) = omega arith
+-- an array of words, as a call knows it that takes one
+each_word : (w : List ℕ) (vs : List Val) → shadow (each ℕ u64.own_val w vs) → (i : ℕ) → get_or w i 0 < 2 ^ word_bits
+each_word [] vs s i = omega arith
+each_word (x ∷ w) [] s i = absurd s
+each_word (x ∷ w) (v ∷ vs) s zero = s.0.1
+each_word (x ∷ w) (v ∷ vs) s (suc i) = each_word w vs s.1 i
+
+pub words-of : (t : Triples) {P : List Val × Unit {0} → Type 0}
+    → (x : List Val × Unit {0}) × (P x × (((vs : List Val) × ((x.0 ≡ array_val vs ∷ [] × length t.words ≡ word_count) × shadow (each ℕ u64.own_val t.words vs))) × Unit {0}))
+    → Words word_count (words_of t)
+words-of t h = (h.1.1.0.1.0.1, each_word t.words h.1.1.0.0 h.1.1.0.1.1)
 
 -- ---- operations
 
@@ -48,26 +59,24 @@ less_bitwise = record {
   bits = λ x y j h l u. bit-and x (2 ^ word_bits - 1 - y) j ∙ ap (λ (b : Bool). bit x j && b) (bit_not word_bits y j l u);
 }
 
--- ---- the loop
+-- an array of an operation on the words of two sets, word by word
+pub each_op : (k : ℕ) (op : ℕ → ℕ → ℕ) (g : Bool → Bool → Bool) (v w : List ℕ) → Bitwise op g → Words k v → Words k w
+    → tabulate k (λ i. op (get_or v i 0) (get_or w i 0)) ≡ sift (length v) (λ r. g (member v r) (member w r))
+each_op k op g v w b p q =
+    combined k op g v w (tabulate k f) p q (length-tabulate f k, λ j. low j (dec_lt j k)) b.bits (λ j l. get_d_tabulate f k j 0 l) ∙ ap (λ (n : ℕ). sift n (λ r. g (member v r) (member w r))) (sym p.0)
+  where
+    f : ℕ → ℕ
+    f i = op (get_or v i 0) (get_or w i 0)
 
-pub record Combining (op : ℕ → ℕ → ℕ) (v w : List ℕ) (i : ℕ) (u : List ℕ) : Type 0 where
-  pub lengths : length u ≡ length v
-  pub done : (j : ℕ) → j < i → get_or u j 0 ≡ op (get_or v j 0) (get_or w j 0)
+    low : (j : ℕ) → Dec (j < k) → get_or (tabulate k f) j 0 < 2 ^ word_bits
+    low j (yes l) = subst (λ (x : ℕ). x < 2 ^ word_bits) (sym (get_d_tabulate f k j 0 l)) (b.low (get_or v j 0) (get_or w j 0) (p.1 j) (q.1 j))
+    low j (no l) = subst (λ (x : ℕ). x < 2 ^ word_bits) (sym (get_or-eq_default (tabulate k f) 0 {n = j} (let a = length-tabulate f k in omega arith))) (omega arith)
 
-module _ (op : ℕ → ℕ → ℕ) (v w : List ℕ) where
-  pub combining-begin : Combining op v w 0 v
-  combining-begin = record { lengths = refl; done = λ j h. absurd (omega arith) }
+-- ---- equality of words
 
-  pub combining-turn : (i : ℕ) {u u' : List ℕ} {x : ℕ} → i < length v → x ≡ op (get_or v i 0) (get_or w i 0) → u' ≡ set u i x → Combining op v w i u → Combining op v w (i + 1) u'
-  combining-turn i {u} {u'} {x} h e q c = record { lengths = ap length q ∙ length-set u i x ∙ c.lengths; done = λ j l. ap (λ (t : List ℕ). get_or t j 0) q ∙ at j l (ℕ_discrete j i) }
-    where
-      at : (j : ℕ) → j < i + 1 → Dec (j ≡ i) → get_or (set u i x) j 0 ≡ op (get_or v j 0) (get_or w j 0)
-      at j l (yes z) = ap (λ (k : ℕ). get_or (set u i x) k 0) z ∙ get_or-set_same u i x 0 (let a = c.lengths in omega arith) ∙ e ∙ ap (λ (k : ℕ). op (get_or v k 0) (get_or w k 0)) (sym z)
-      at j l (no ne) = get_or-set_other u i j x 0 ne ∙ c.done j (omega arith)
-
-  pub combining_end : (k i : ℕ) (g : Bool → Bool → Bool) {u : List ℕ} → Bitwise op g → Words k v → Words k w → k ≤ i → Combining op v w i u → u ≡ sift k (λ r. g (member v r) (member w r))
-  combining_end k i g {u} b p q h c = combined k op g v w u p q (c.lengths ∙ p.0, λ j. low j (dec_lt j k)) b.bits (λ j l. c.done j (omega arith))
-    where
-      low : (j : ℕ) → Dec (j < k) → get_or u j 0 < 2 ^ word_bits
-      low j (yes l) = subst (λ (x : ℕ). x < 2 ^ word_bits) (sym (c.done j (omega arith))) (b.low (get_or v j 0) (get_or w j 0) (p.1 j) (q.1 j))
-      low j (no l) = subst (λ (x : ℕ). x < 2 ^ word_bits) (sym (get_or-eq_default u 0 {n = j} (let a = c.lengths in let z = p.0 in omega arith))) (omega arith)
+pub same_words : (v w : List ℕ) → pointwise eqb v w ≡ same_list v w
+unfolding same_list
+same_words [] [] = refl
+same_words [] (y ∷ w) = refl
+same_words (x ∷ v) [] = refl
+same_words (x ∷ v) (y ∷ w) = ap (λ (b : Bool). eqb x y && b) (same_words v w)

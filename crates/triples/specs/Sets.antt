@@ -10,7 +10,7 @@
 --   SameBelow a t u     the rows below a are the same in both tables
 --   Written a k f t u   u is t with f p written to row a + p, for each p below k; the rows below a stay
 --   Holding n t         row k holds the holders of shot k
-use Rattle.std.specs.Prelude.{◌≡◌, Bool, not, cond, ◌||◌, ◌&&◌, List, [], ◌∷◌, ℕ, ◌+◌, ◌<◌, ltb, length}
+use Rattle.std.specs.Prelude.{◌≡◌, Bool, not, cond, ◌||◌, ◌&&◌, List, ℕ, ◌+◌, ◌<◌, ltb, length}
 use Rattle.algebra.specs.Loops.{every, tally}
 use Rattle.algebra.specs.Sets.{is_on, bit}
 use Rattle.algebra.specs.Words.{member, sift, row_of}
@@ -19,7 +19,7 @@ use Rattle.triples.specs.Ranks.{triple_count, triple_at}
 use Rattle.triples.specs.declared.Triples.{Triples}
 
 abbrev pub words_of : Triples → List ℕ
-words_of t = t.low ∷ t.high ∷ []
+words_of t = t.words
 
 unfoldable pub full_of : ℕ → List ℕ
 full_of n = sift word_count (λ r. ltb r (triple_count n))

@@ -19,9 +19,8 @@ pub const WORDS: usize = 2;
 
 pub const WORD_BITS: usize = 64;
 
-// A set of triples: rank r at bit r mod 64, from the low end, of word r div 64. Only sets::word, sets::with_word and sets::none touch the words.
-#[derive(Clone, Copy)]
+// A set of triples: rank r at bit r mod 64, from the low end, of word r div 64.
+#[derive(Clone, Copy, PartialEq, Eq, Debug)]
 pub struct Triples {
-    pub low: u64,
-    pub high: u64,
+    pub words: [u64; WORDS],
 }

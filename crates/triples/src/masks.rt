@@ -41,5 +41,5 @@ pub fn lowest(x: u16) -> usize
     requires { x ≡ 0 → ⊥ }
     ensures { (result ≡ lowest_of mask_bits x) × (result < mask_bits) }
 {
-    u16::trailing_zeros(x) as usize
+    x.trailing_zeros() as usize
 }

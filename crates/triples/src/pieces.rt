@@ -12,11 +12,8 @@ pub fn all(size: usize, n: usize, out: &mut [u16])
     requires { (n ≤ shots_most) × (piece_count size n ≤ length out.old) }
     ensures { (length out.new ≡ length out.old) × InRankOrder size n out.new }
 {
-    let count = ranks::piece_count(size, n);
-    let mut r = 0;
-    while r < count {
+    for r in 0..ranks::piece_count(size, n) {
         out[r] = ranks::piece_of(size, n, r);
-        r += 1;
     }
 }
 
@@ -27,6 +24,7 @@ pub fn fill(size: usize, n: usize, all: &[u16], list: &[u64], out: &mut [u16]) -
 {
     let count = ranks::piece_count(size, n);
     let mut t = 0;
+    // No `for`: the next rank of the list is found a word at a time.
     let mut r = words::from(list, 0);
     while r < count {
         out[t] = all[r];
@@ -41,15 +39,7 @@ pub fn holders(pieces: &[u16], x: u16) -> u16
     requires { length pieces.now < 2 ^ mask_bits }
     ensures { result ≡ holder_count pieces.now x }
 {
-    let mut count = 0;
-    let mut t = 0;
-    while t < pieces.len() {
-        if masks::holds(x, pieces[t]) {
-            count += 1;
-        }
-        t += 1;
-    }
-    count
+    pieces.iter().map(|p| u16::from(masks::holds(x, *p))).sum()
 }
 
 // Whether some piece does.

@@ -6,9 +6,9 @@ ghost use Rattle.shots.specs.Sizes.{shots_most};
 ghost use Rattle.triples.specs.Ranks.{triple_count, triple_at, rank_of, piece_count, rank_in};
 ghost use Rattle.triples.specs.Pieces.{piece_of, Piece};
 
-use super::masks;
+use super::{PIECE, masks};
 
-#[derive(Clone, Copy)]
+#[derive(Clone, Copy, PartialEq, Eq, Debug)]
 pub struct Triple {
     pub i: usize,
     pub j: usize,
@@ -24,10 +24,8 @@ fn choose(m: usize, k: usize) -> usize
         return 0;
     }
     let mut c = 1;
-    let mut i = 0;
-    while i < k {
+    for i in 0..k {
         c = c * (m - i) / (i + 1);
-        i += 1;
     }
     c
 }
@@ -37,7 +35,7 @@ pub fn count(n: usize) -> usize
     requires { n ≤ shots_most }
     ensures { result ≡ triple_count n }
 {
-    choose(n, 3)
+    piece_count(PIECE, n)
 }
 
 // The first number of a list of numbers, and the place of the others among the lists that begin with it.
@@ -52,16 +50,15 @@ fn head(k: usize, a: usize, n: usize, r: usize) -> Leading
     requires { (n ≤ shots_most) × (r < choose (n - a) (k + 1)) }
     ensures { (result.number < n) × (result.rest < choose (n - 1 - result.number) k) × (set_by (k + 1) a (n - a) r ≡ result.number ∷ set_by k (result.number + 1) (n - 1 - result.number) result.rest) }
 {
-    let mut number = a;
     let mut rest = r;
-    loop {
+    for number in a..n {
         let begun = choose(n - 1 - number, k);
         if rest < begun {
             return Leading { number, rest };
         }
         rest -= begun;
-        number += 1;
     }
+    unreachable!()
 }
 
 // The triple of rank r.
@@ -83,26 +80,25 @@ pub fn next(n: usize, i: usize, j: usize, k: usize) -> Triple
     requires { (i < j) × (j < k) × (k < n) × (n ≤ shots_most) }
     ensures { result.i ∷ result.j ∷ result.k ∷ [] ≡ next_of n (i ∷ j ∷ k ∷ []) }
 {
-    let third = k + 1;
-    if third < n {
-        return Triple { i, j, k: third };
-    }
-    let third = j + 2;
-    if third < n {
-        return Triple {
+    if k + 1 < n {
+        Triple { i, j, k: k + 1 }
+    } else if j + 2 < n {
+        Triple {
             i,
             j: j + 1,
-            k: third,
-        };
-    }
-    Triple {
-        i: i + 1,
-        j: i + 2,
-        k: i + 3,
+            k: j + 2,
+        }
+    } else {
+        Triple {
+            i: i + 1,
+            j: i + 2,
+            k: i + 3,
+        }
     }
 }
 
 // The rank of the triple i < j < k: all triples but those after it and itself.
+// Not rank_in of their mask, which would have to be made to be taken apart again.
 pub fn rank(n: usize, i: usize, j: usize, k: usize) -> usize
     requires { (i < j) × (j < k) × (k < n) × (n ≤ shots_most) }
     ensures { result ≡ rank_of n (i ∷ j ∷ k ∷ []) }
@@ -127,9 +123,7 @@ pub fn piece_of(size: usize, n: usize, r: usize) -> u16
     let mut x = 0;
     let mut a = 0;
     let mut rest = r;
-    let mut left = size;
-    while 0 < left {
-        left -= 1;
+    for left in (0..size).rev() {
         let first = head(left, a, n, rest);
         x = masks::with(x, first.number);
         a = first.number + 1;
@@ -144,13 +138,11 @@ pub fn rank_in(size: usize, n: usize, x: u16) -> usize
     ensures { result ≡ rank_in size n (set_of n x) }
 {
     let mut after = 0;
-    let mut left = size;
     let mut y = x;
-    while 0 < left {
+    for left in (0..size).rev() {
         let i = masks::lowest(y);
-        after += choose(n - 1 - i, left);
+        after += choose(n - 1 - i, left + 1);
         y = masks::without(y, i);
-        left -= 1;
     }
     choose(n, size) - 1 - after
 }

@@ -1,11 +1,11 @@
-// Sets of pieces by their ranks, in as many words as are lent: one piece by shift and mask.
+// Sets by ranks, in as many words as are lent: one rank by shift and mask.
 ghost use Rattle.std.specs.Prelude.{◌≡◌, cond, ◌*◌, ◌^◌, ◌<◌, length};
 ghost use Rattle.algebra.specs.Words.{word_bits, member, put_in, take_out};
 ghost use Rattle.algebra.specs.Loops.{first_from};
 ghost use Rattle.triples.specs.Sizes.{word_count};
 ghost use Rattle.triples.specs.Sets.{words_of};
 
-use super::{Triples, WORD_BITS, WORDS};
+use super::{Triples, WORD_BITS, WORDS, rows};
 
 pub fn has(list: &[u64], r: usize) -> bool
     requires { r < word_bits * length list.now }
@@ -22,10 +22,10 @@ pub fn set(list: &mut [u64], r: usize, inward: bool)
     let q = r / WORD_BITS;
     let one = 1 << (r % WORD_BITS);
     if inward {
-        list[q] = list[q] | one;
-        return;
+        list[q] |= one;
+    } else {
+        list[q] &= !one;
     }
-    list[q] = list[q] & !one;
 }
 
 // The least rank of the list from r on; past the last bit where there is none.
@@ -33,13 +33,12 @@ pub fn from(list: &[u64], r: usize) -> usize
     requires { word_bits * length list.now < 2 ^ word_bits }
     ensures { result ≡ first_from r (word_bits * length list.now) (member list.now) }
 {
-    let mut q = r;
-    while q / WORD_BITS < list.len() {
-        let rest = list[q / WORD_BITS] >> (q % WORD_BITS);
+    for i in r / WORD_BITS..list.len() {
+        let first = r.max(WORD_BITS * i);
+        let rest = list[i] >> (first - WORD_BITS * i);
         if rest != 0 {
-            return q + u64::trailing_zeros(rest) as usize;
+            return first + rest.trailing_zeros() as usize;
         }
-        q = WORD_BITS * (q / WORD_BITS + 1);
     }
     WORD_BITS * list.len()
 }
@@ -48,7 +47,7 @@ pub fn from(list: &[u64], r: usize) -> usize
 pub fn spread(list: Triples) -> [u64; WORDS]
     ensures { result ≡ words_of list }
 {
-    [list.low, list.high]
+    list.words
 }
 
 // The list that an answer carries, of its words.
@@ -56,8 +55,5 @@ pub fn gathered(words: &[u64]) -> Triples
     requires { length words.now ≡ word_count }
     ensures { words_of result ≡ words.now }
 {
-    Triples {
-        low: words[0],
-        high: words[1],
-    }
+    rows::row_at(words, 0)
 }

@@ -1,25 +1,24 @@
 -- The index that a run keeps over the rows of its table: what it finds, and that it stays the index of the rows when one is added.
 --
---   spot_none, spot_on, spot_end    the place of a list, word by word
 --   latest_same                     the last row of a place is the same in tables with the same rows
 --   seen_latest                     a list is one of the first rows exactly if it is one of those up to the last one of its place
 --   Chained t c w n                 w is one of the first c rows exactly if it is one of the first n, and the last of these has its place
 --   chained-first, chained_next     so it is with what stands at the place of w; and then with the link of row n - 1, where that row is not w
 --   chained_less                    the links go down
 --   chained_found, chained_end      a row that is w is found; where the links end, none is
---   noted_by, noted_out             how a row is put in, and that a row which is not covered changes nothing
 --   indexed_none                    the index of no row
---   indexed_noted                   a row more, put in: the index of a table that has it, behind the same rows
---   indexed_placed                  so it is where the row is written to the table
-use Rattle.std.specs.Prelude.{◌≡◌, ℕ, zero, suc, ◌+◌, ◌-◌, ◌*◌, ◌%◌, ◌<◌, ◌≤◌, Bool, true, false, cond, ◌||◌, eqb, List, [], ◌∷◌, length, get_or, drop, set, replicate}
+--   indexed_kept                    the index of the rows in use is still theirs where the next row is written
+--   noted_in, noted_out             it is the index of a row more once that is put in, or where it is not covered
+--   indexed_placed                  both: a row written and put in
+use Rattle.std.specs.Prelude.{◌≡◌, ℕ, zero, suc, ◌+◌, ◌-◌, ◌*◌, ◌%◌, ◌<◌, ◌≤◌, Bool, true, false, cond, ◌||◌, eqb, ltb, List, [], ◌∷◌, length, get_or, set, replicate}
 use mathlib.Core.Path.{refl, sym, ◌∙◌, ap, subst}
 use mathlib.Core.Bool.{or-false}
 use native.Mathlib.Omega.{arith}
 use native.Mathlib.Nat.{mod-lt, min-eq_left, min-eq_right}
 use native.Mathlib.Numerals.{add-one}
 use native.Mathlib.Decide.{dec_lt, ℕ_discrete}
-use lib.ListN.{length-set, length-replicate, get_or-replicate, drop_of_length-le}
-use lib.Seq.{drop-cons, get_or-set_same, get_or-set_other}
+use lib.ListN.{length-set, length-replicate, get_or-replicate}
+use lib.Seq.{get_or-set_same, get_or-set_other}
 use borrow.Author.Tests.{eq-eqb, ne_eqb, lt-ltb, le-ltb}
 use Rattle.algebra.specs.Sets.{same_list}
 use Rattle.algebra.specs.Words.{row_of, set_row}
@@ -41,20 +40,6 @@ from_below a (x ∷ w) h = from_below ((a * 32 + x % spots) % spots) w (mod-lt (
 spot_below : (w : List ℕ) → spot_of w < spots
 unfolding spot_of
 spot_below w = from_below 0 w (omega arith)
-
-module _ (w : List ℕ) where
-  pub spot_none : spot_from 0 (drop 0 w) ≡ spot_of w
-  unfolding spot_of
-  spot_none = refl
-
-  pub spot_on : (a i : ℕ) {x : ℕ} → i < length w → x ≡ get_or w i 0 → spot_from a (drop i w) ≡ spot_of w → spot_from ((a * 32 + x % spots) % spots) (drop (i + 1) w) ≡ spot_of w
-  spot_on a i {x} l e h =
-      ap (λ (y : ℕ). spot_from ((a * 32 + y % spots) % spots) (drop (i + 1) w)) e
-      ∙ ap (λ (j : ℕ). spot_from ((a * 32 + get_or w i 0 % spots) % spots) (drop j w)) (add-one i)
-      ∙ sym (ap (spot_from a) (drop-cons w i 0 l)) ∙ h
-
-  pub spot_end : (a i : ℕ) → length w ≤ i → spot_from a (drop i w) ≡ spot_of w → a ≡ spot_of w
-  spot_end a i l h = sym (ap (spot_from a) (drop_of_length-le w {i = i} l)) ∙ h
 
 -- ---- the last row of a place
 
@@ -161,24 +146,6 @@ covered_in n h = min-eq_left h
 covered_out : (n : ℕ) → indexed_most ≤ n → covered_of n ≡ indexed_most
 covered_out n h = min-eq_right h
 
--- ---- a row more
-
-module _ (x : List ℕ) (p : ℕ) (w : List ℕ) where
-  abbrev linked : List ℕ
-  linked = set x (spots + p) (get_or x (spot_of w) 0)
-
-  noted_in : p < indexed_most → noted_of x p w ≡ set linked (spot_of w) (suc p)
-  unfolding noted_of
-  noted_in h = rw (lt-ltb p indexed_most h)
-
-  -- as the code puts it in, with s its place
-  pub noted_by : (s : ℕ) → s ≡ spot_of w → p < indexed_most → set (set x (spots + p) (get_or x s 0)) s (p + 1) ≡ noted_of x p w
-  noted_by s e h = ap (λ (s : ℕ). set (set x (spots + p) (get_or x s 0)) s (p + 1)) e ∙ ap (set linked (spot_of w)) (add-one p) ∙ sym (noted_in h)
-
-  pub noted_out : indexed_most ≤ p → noted_of x p w ≡ x
-  unfolding noted_of
-  noted_out h = rw (le-ltb p indexed_most h)
-
 pub indexed_none : (t : List ℕ) → Indexed t 0 (replicate (spots + indexed_most) 0)
 indexed_none t =
     record {
@@ -187,67 +154,101 @@ indexed_none t =
       links = λ p h. absurd (omega arith);
     }
 
-module _ (t u w x : List ℕ) (n : ℕ) (index : Indexed t n x) (before : (q : ℕ) → q < n → row_of word_count u q ≡ row_of word_count t q) where
+-- ---- a table with the same rows in use
+
+module _ (t u x : List ℕ) (n : ℕ) (index : Indexed t n x) (before : (q : ℕ) → q < n → row_of word_count u q ≡ row_of word_count t q) where
   -- the link of row p is the same in both tables
   same_link : (p : ℕ) → p < n → latest_of t (spot_of (row_of word_count t p)) p ≡ latest_of u (spot_of (row_of word_count u p)) p
   same_link p l =
       ap (λ (r : List ℕ). latest_of t (spot_of r) p) (sym (before p l))
       ∙ sym (latest_same t u (spot_of (row_of word_count u p)) p (λ q m. before q (omega arith)))
 
-  noted_covered : n < indexed_most → row_of word_count u n ≡ w → Indexed u (suc n) (set (linked x n w) (spot_of w) (suc n))
+  indexed_same : Indexed u n x
+  indexed_same =
+      record {
+        room = index.room;
+        heads = λ s l. index.heads s l ∙ sym (latest_same t u s (covered_of n) (λ q m. before q (omega arith)));
+        links = λ p l. index.links p l ∙ same_link p (omega arith);
+      }
+
+pub indexed_kept : (t w x : List ℕ) (n : ℕ) → Indexed t n x → length w ≡ word_count → Indexed (set_row t n w) n x
+indexed_kept t w x n index e = indexed_same t (set_row t n w) x n index (λ q l. row_other word_count t n q w e (λ z. omega arith))
+
+-- ---- a row more
+
+module _ (t w x : List ℕ) (n : ℕ) (index : Indexed t n x) where
+  abbrev linked : List ℕ
+  linked = set x (spots + n) (get_or x (spot_of w) 0)
+
+  noted_covered : n < indexed_most → row_of word_count t n ≡ w → Indexed t (suc n) (set linked (spot_of w) (suc n))
   noted_covered h e =
       record {
-        room = length-set (linked x n w) (spot_of w) (suc n) ∙ length-set x (spots + n) (get_or x (spot_of w) 0) ∙ index.room;
-        heads = λ s l. head s l (ℕ_discrete s (spot_of w)) ∙ ap (latest_of u s) (sym (covered_in (suc n) h));
+        room = length-set linked (spot_of w) (suc n) ∙ length-set x (spots + n) (get_or x (spot_of w) 0) ∙ index.room;
+        heads = λ s l. head s l (ℕ_discrete s (spot_of w)) ∙ ap (latest_of t s) (sym (covered_in (suc n) h));
         links = λ p l. link p (let z = covered_in (suc n) h in omega arith) (ℕ_discrete p n);
       }
     where
-      here : spot_of (row_of word_count u n) ≡ spot_of w
+      here : spot_of (row_of word_count t n) ≡ spot_of w
       here = ap spot_of e
 
-      old : (s : ℕ) → s < spots → get_or x s 0 ≡ latest_of u s n
-      old s l = index.heads s l ∙ ap (latest_of t s) (covered_in n (omega arith)) ∙ sym (latest_same t u s n before)
+      old : (s : ℕ) → s < spots → get_or x s 0 ≡ latest_of t s n
+      old s l = index.heads s l ∙ ap (latest_of t s) (covered_in n (omega arith))
 
-      head : (s : ℕ) → s < spots → Dec (s ≡ spot_of w) → get_or (set (linked x n w) (spot_of w) (suc n)) s 0 ≡ latest_of u s (suc n)
+      head : (s : ℕ) → s < spots → Dec (s ≡ spot_of w) → get_or (set linked (spot_of w) (suc n)) s 0 ≡ latest_of t s (suc n)
       head s l (yes z) =
-          ap (λ (j : ℕ). get_or (set (linked x n w) (spot_of w) (suc n)) j 0) z
-          ∙ get_or-set_same (linked x n w) (spot_of w) (suc n) 0 (let a = length-set x (spots + n) (get_or x (spot_of w) 0) in let b = index.room in let d = spot_below w in omega arith)
-          ∙ sym (latest_here u s n (here ∙ sym z))
+          ap (λ (j : ℕ). get_or (set linked (spot_of w) (suc n)) j 0) z
+          ∙ get_or-set_same linked (spot_of w) (suc n) 0 (let a = length-set x (spots + n) (get_or x (spot_of w) 0) in let b = index.room in let d = spot_below w in omega arith)
+          ∙ sym (latest_here t s n (here ∙ sym z))
       head s l (no ne) =
-          get_or-set_other (linked x n w) (spot_of w) s (suc n) 0 ne
+          get_or-set_other linked (spot_of w) s (suc n) 0 ne
           ∙ get_or-set_other x (spots + n) s (get_or x (spot_of w) 0) 0 (λ z. omega arith)
-          ∙ old s l ∙ sym (latest_else u s n (λ z. ne (sym z ∙ here)))
+          ∙ old s l ∙ sym (latest_else t s n (λ z. ne (sym z ∙ here)))
 
-      link : (p : ℕ) → p < suc n → Dec (p ≡ n) → get_or (set (linked x n w) (spot_of w) (suc n)) (spots + p) 0 ≡ latest_of u (spot_of (row_of word_count u p)) p
-      link p l d = get_or-set_other (linked x n w) (spot_of w) (spots + p) (suc n) 0 (λ z. omega (arith, spot_below w)) ∙ go d
+      link : (p : ℕ) → p < suc n → Dec (p ≡ n) → get_or (set linked (spot_of w) (suc n)) (spots + p) 0 ≡ latest_of t (spot_of (row_of word_count t p)) p
+      link p l d = get_or-set_other linked (spot_of w) (spots + p) (suc n) 0 (λ z. omega (arith, spot_below w)) ∙ go d
         where
-          go : Dec (p ≡ n) → get_or (linked x n w) (spots + p) 0 ≡ latest_of u (spot_of (row_of word_count u p)) p
+          go : Dec (p ≡ n) → get_or linked (spots + p) 0 ≡ latest_of t (spot_of (row_of word_count t p)) p
           go (yes z) =
-              ap (λ (j : ℕ). get_or (linked x n w) (spots + j) 0) z
+              ap (λ (j : ℕ). get_or linked (spots + j) 0) z
               ∙ get_or-set_same x (spots + n) (get_or x (spot_of w) 0) 0 (let b = index.room in omega arith)
-              ∙ old (spot_of w) (spot_below w) ∙ ap (λ (s : ℕ). latest_of u s n) (sym here) ∙ ap (λ (j : ℕ). latest_of u (spot_of (row_of word_count u j)) j) (sym z)
+              ∙ old (spot_of w) (spot_below w) ∙ ap (λ (s : ℕ). latest_of t s n) (sym here) ∙ ap (λ (j : ℕ). latest_of t (spot_of (row_of word_count t j)) j) (sym z)
           go (no ne) =
               get_or-set_other x (spots + n) (spots + p) (get_or x (spot_of w) 0) 0 (λ z. ne (omega arith))
-              ∙ index.links p (let z = covered_in n (omega arith) in omega arith) ∙ same_link p (omega arith)
+              ∙ index.links p (let z = covered_in n (omega arith) in omega arith)
 
-  noted_uncovered : indexed_most ≤ n → Indexed u (suc n) x
-  noted_uncovered h =
+  -- as the code puts it in, with s its place
+  pub noted_in : (s : ℕ) → s ≡ spot_of w → n < indexed_most → row_of word_count t n ≡ w → Indexed t (n + 1) (set (set x (spots + n) (get_or x s 0)) s (n + 1))
+  noted_in s q h e = subst (λ (m : ℕ). Indexed t m (set (set x (spots + n) (get_or x s 0)) s m)) (sym (add-one n)) (subst (λ (s : ℕ). Indexed t (suc n) (set (set x (spots + n) (get_or x s 0)) s (suc n))) (sym q) (noted_covered h e))
+
+  pub noted_out : indexed_most ≤ n → Indexed t (n + 1) x
+  noted_out h =
       record {
         room = index.room;
-        heads = λ s l. index.heads s l ∙ sym (latest_same t u s (covered_of n) (λ q m. before q (omega (arith, covered_out n h)))) ∙ ap (latest_of u s) same;
-        links = λ p l. index.links p (subst (λ (m : ℕ). p < m) (sym same) l) ∙ same_link p (omega (arith, covered_out n h, same));
+        heads = λ s l. index.heads s l ∙ ap (latest_of t s) same;
+        links = λ p l. index.links p (subst (λ (m : ℕ). p < m) (sym same) l);
       }
     where
-      same : covered_of n ≡ covered_of (suc n)
-      same = covered_out n h ∙ sym (covered_out (suc n) (omega arith))
-
-  pub indexed_noted : row_of word_count u n ≡ w → Indexed u (n + 1) (noted_of x n w)
-  indexed_noted e = subst (λ (m : ℕ). Indexed u m (noted_of x n w)) (sym (add-one n)) (go (dec_lt n indexed_most))
-    where
-      go : Dec (n < indexed_most) → Indexed u (suc n) (noted_of x n w)
-      go (yes h) = subst (Indexed u (suc n)) (sym (noted_in x n w h)) (noted_covered h e)
-      go (no h) = let l : indexed_most ≤ n = omega arith in subst (Indexed u (suc n)) (sym (noted_out x n w l)) (noted_uncovered l)
+      same : covered_of n ≡ covered_of (n + 1)
+      same = covered_out n h ∙ sym (covered_out (n + 1) (omega arith))
 
 pub indexed_placed : (t w x : List ℕ) (n : ℕ) → Indexed t n x → length w ≡ word_count → word_count * n + word_count ≤ length t → Indexed (set_row t n w) (n + 1) (noted_of x n w)
-indexed_placed t w x n index e h =
-    indexed_noted t (set_row t n w) w x n index (λ q l. row_other word_count t n q w e (λ z. omega arith)) (row_same word_count t n w e h)
+unfolding noted_of
+indexed_placed t w x n index e h = go (dec_lt n indexed_most)
+  where
+    u : List ℕ
+    u = set_row t n w
+
+    kept : Indexed u n x
+    kept = indexed_kept t w x n index e
+
+    -- the index with the row put in, where it is covered
+    put : Bool → List ℕ
+    put b = cond b (set (set x (spots + n) (get_or x (spot_of w) 0)) (spot_of w) (suc n)) x
+
+    go : Dec (n < indexed_most) → Indexed u (n + 1) (put (ltb n indexed_most))
+    go (yes l) =
+        subst (λ (b : Bool). Indexed u (n + 1) (put b)) (sym (lt-ltb n indexed_most l))
+        (subst (λ (m : ℕ). Indexed u (n + 1) (set (set x (spots + n) (get_or x (spot_of w) 0)) (spot_of w) m)) (add-one n) (noted_in u w x n kept (spot_of w) refl l (row_same word_count t n w e h)))
+    go (no l) =
+        let m : indexed_most ≤ n = omega arith in
+        subst (λ (b : Bool). Indexed u (n + 1) (put b)) (sym (le-ltb n indexed_most m)) (noted_out u w x n kept m)

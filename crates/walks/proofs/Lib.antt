@@ -1,4 +1,4 @@
-pub mod ScanLaws
+pub mod Chains
 pub mod IndexLaws
 pub mod StepsLaws
 pub mod Promises

@@ -15,12 +15,12 @@
 --
 -- For any ground: reach/proofs/LineLaws, Runs, TableLaws. That a refused start or step, and a step that is done, changes nothing: reach/proofs/StepLaws.
 -- Source: document 01, "The walk", "Refusal numbers".
-use Rattle.std.specs.Prelude.{◌≡◌, ℕ, ◌+◌, ◌*◌, ◌<◌, ◌⊎◌, ◌↔◌, List, [], ◌∷◌, ◌++◌, length, ℤ}
+use Rattle.std.specs.Prelude.{◌≡◌, ℕ, ◌+◌, ◌*◌, ◌<◌, ◌⊎◌, ◌↔◌, List, [], ◌∷◌, ◌++◌, length, ℤ, Result}
 use mathlib.Core.Path.{refl, sym, ◌∙◌, ap, subst}
 use mathlib.Core.Logic.{inl, inr, ⊎_elim}
 use native.Mathlib.Omega.{arith}
 use Rattle.algebra.specs.Answer.{Answer, gives, refuses, Line, First, Clear}
-use Rattle.algebra.proofs.AnswerLaws.{one_answer, first_clear, first-append, clear-append}
+use Rattle.algebra.proofs.AnswerLaws.{first_clear, first-append, clear-append}
 use Rattle.reach.specs.Walks.{WalkRecord, Begun, started, Reply, made, done, Landing, leaves, step_of, steps_of, run_of, start_of}
 use Rattle.reach.specs.Lines.{Says, first-line, no_line, FlipSays, row-refused, no-flip, flipped, Lined}
 use Rattle.reach.specs.Leaving.{MadeStep, RowByRow}
@@ -30,7 +30,9 @@ use Rattle.reach.proofs.TableLaws as tables
 use Rattle.reach.proofs.LineLaws as reach
 use Rattle.reach.proofs.Runs as runs
 use Rattle.shots.specs.Lines.{shot_lines}
+use Rattle.shots.specs.declared.refusal.Refusal.{Refusal}
 use Rattle.shots.proofs.Promises.{shots_decided}
+use Rattle.shots.proofs.RefusalLaws.{answer_one}
 use Rattle.circuits.specs.Numbering.{circuits_of}
 use Rattle.circuits.specs.Lines.{NotCircuit}
 use Rattle.lists.specs.Lines.{list_lines, test_lines}
@@ -41,13 +43,11 @@ use Rattle.surfaces.specs.Lines.{NoFlip}
 use Rattle.surfaces.specs.Calls.{flip_of}
 use Rattle.surfaces.proofs.Promises.{flip_refuses, flip_gives}
 use Rattle.triples.specs.Sizes.{word_count}
-use Rattle.walks.specs.Calls.{ground_of, read_walk, walk_as, read_started, read_stepped, start_landing, step_landing}
+use Rattle.walks.specs.Calls.{ground_of, walk_as, read_progress, landing, start_landing, step_landing}
 use Rattle.walks.specs.Lines.{lines_of, start_lines, walk_lines, step_lines, RunRefuses}
 use Rattle.walks.specs.declared.Walk.{Walk}
-use Rattle.walks.specs.declared.Started.{Started}
-use Rattle.walks.specs.declared.Started.TheVariants as B
-use Rattle.walks.specs.declared.Stepped.{Stepped}
-use Rattle.walks.specs.declared.Stepped.TheVariants as S
+use Rattle.walks.specs.declared.Progress.{Progress}
+use Rattle.walks.specs.declared.Progress.TheVariants as P
 use Rattle.walks.proofs.StepsLaws.{flip_keeps}
 
 -- ---- a patch refuses as its lines say
@@ -161,34 +161,24 @@ module _ (l : List ℤ) (t : List ℕ) (r : WalkRecord) where
 
 -- ---- one answer
 
-abbrev started_as : Answer Begun → Started
-started_as (gives v) = B.Started
-started_as (refuses n) = B.Refused n
+abbrev progress_as : Reply → Progress
+progress_as made = P.Made
+progress_as done = P.Done
 
-started_back : (a : Started) → started_as (read_started a) ≡ a
-started_back B.Started = refl
-started_back (B.Refused n) = refl
+progress_back : (p : Progress) → progress_as (read_progress p) ≡ p
+progress_back P.Made = refl
+progress_back P.Done = refl
 
-abbrev stepped_as : Answer Reply → Stepped
-stepped_as (gives made) = S.Made
-stepped_as (gives done) = S.Done
-stepped_as (refuses n) = S.Refused n
-
-stepped_back : (a : Stepped) → stepped_as (read_stepped a) ≡ a
-stepped_back S.Made = refl
-stepped_back S.Done = refl
-stepped_back (S.Refused n) = refl
-
--- a landing tells the case of its answer, its record and its table
-one_landing : {A E : Type 0} (read : E → Answer A) (back : Answer A → E) → ((a : E) → back (read a) ≡ a) → (x : Landing A) (a a' : E) (v v' : Walk) (u u' : List ℕ)
-    → leaves u (read_walk v) (read a) ≡ x → leaves u' (read_walk v') (read a') ≡ x → (a ≡ a') × (v ≡ v') × (u ≡ u')
-one_landing {A} read back undone x a a' v v' u u' p q =
+-- a landing tells the result, its record and its table
+one_landing : {A B : Type 0} (f : A → B) (g : B → A) → ((a : A) → g (f a) ≡ a) → (x : Landing B) (r r' : Result A Refusal) (v v' : Walk) (u u' : List ℕ)
+    → landing f r v u ≡ x → landing f r' v' u' ≡ x → (r ≡ r') × (v ≡ v') × (u ≡ u')
+one_landing {A} {B} f g undone x r r' v v' u u' p q =
     let e = p ∙ sym q in
-    let answer : Landing A → Answer A = λ y. y.answer in
-    (one_answer read back undone (ap answer p) (ap answer q), ap (λ (y : Landing A). walk_as y.walk) e, ap (λ (y : Landing A). y.table) e)
+    let answer : Landing B → Answer B = λ y. y.answer in
+    (answer_one f g undone (ap answer p) (ap answer q), ap (λ (y : Landing B). walk_as y.walk) e, ap (λ (y : Landing B). y.table) e)
 
-pub start_one : (x : Landing Begun) (a a' : Started) (v v' : Walk) (u u' : List ℕ) → start_landing a v u ≡ x → start_landing a' v' u' ≡ x → (a ≡ a') × (v ≡ v') × (u ≡ u')
-start_one = one_landing read_started started_as started_back
+pub start_one : (x : Landing Begun) (r r' : Result (Unit {0}) Refusal) (v v' : Walk) (u u' : List ℕ) → start_landing r v u ≡ x → start_landing r' v' u' ≡ x → (r ≡ r') × (v ≡ v') × (u ≡ u')
+start_one = one_landing (λ _. started) (λ _. tt) (λ v. refl)
 
-pub step_one : (x : Landing Reply) (a a' : Stepped) (v v' : Walk) (u u' : List ℕ) → step_landing a v u ≡ x → step_landing a' v' u' ≡ x → (a ≡ a') × (v ≡ v') × (u ≡ u')
-step_one = one_landing read_stepped stepped_as stepped_back
+pub step_one : (x : Landing Reply) (r r' : Result Progress Refusal) (v v' : Walk) (u u' : List ℕ) → step_landing r v u ≡ x → step_landing r' v' u' ≡ x → (r ≡ r') × (v ≡ v') × (u ≡ u')
+step_one = one_landing read_progress progress_as progress_back

@@ -11,7 +11,7 @@
 --   demand_3             the same of what the calls left: an accepted `start`, and then `step` and `run`
 --
 -- For any flip: reach/proofs/Theorem. Source: demand 3; document 01, "The walk".
-use Rattle.std.specs.Prelude.{◌≡◌, ℕ, ◌*◌, ◌/◌, ◌<◌, ◌≤◌, ◌↔◌, List, length, ℤ}
+use Rattle.std.specs.Prelude.{◌≡◌, ℕ, ◌*◌, ◌/◌, ◌<◌, ◌≤◌, ◌↔◌, List, length, ℤ, Ok}
 use mathlib.Core.Path.{refl, sym, ◌∙◌, ap, subst}
 use mathlib.Core.Logic.{inl, inr, ⊎_elim}
 use native.Mathlib.Omega.{arith}
@@ -46,7 +46,6 @@ use Rattle.walks.specs.Surfaces.{PublishedFlip, Reachable}
 use Rattle.walks.specs.Reached.{BareFlip, BareReach}
 use Rattle.walks.specs.Demand.{Later, at_once, by_step, by-run, moved, StepsMade, StepDone, NoStepRefused, HoldsAll, Demand-3}
 use Rattle.walks.specs.declared.Walk.{Walk}
-use Rattle.walks.specs.declared.Started.TheVariants as B
 use Rattle.walks.proofs.StepsLaws.{flip_keeps}
 use Rattle.walks.proofs.Promises.{patch_lined}
 
@@ -221,7 +220,7 @@ later_walked {l} {w₀} h (by-run k b a u' v' e) = subst (λ (x : Landing Reply)
 later_walked h (moved k u' room same) = moves _ u' _ (later_walked h k) room same
 
 -- `Words`: the list is two words of 64 bits, as every list of the code is
-pub demand_3 : (l : List ℤ) (s : Triples) → Words word_count (words_of s) → (t₀ : List ℕ) (r₀ : Walk) (t : List ℕ) (r : Walk) → start_landing B.Started r t ≡ start_call_of l s t₀ r₀
+pub demand_3 : (l : List ℤ) (s : Triples) → Words word_count (words_of s) → (t₀ : List ℕ) (r₀ : Walk) (t : List ℕ) (r : Walk) → start_landing (Ok tt) r t ≡ start_call_of l s t₀ r₀
     → (u : List ℕ) (v : Walk) → Later l t r u v → Demand-3 l (words_of s) t r u v
 demand_3 l s v₀ t₀ r₀ t r begun u v k =
     let a = ap (λ (x : Landing Begun). x.answer) (sym begun) in

@@ -21,12 +21,13 @@
 --     neighbours             once (p + 1) × C ≤ step, every published flip of row p is one of the rows
 --
 -- The theorem: proofs/Theorem (`demand_3`); for any flip: reach/specs/Walked. Source: demand 3; document 01, "The walk".
-use Rattle.std.specs.Prelude.{◌≡◌, ℕ, ◌+◌, ◌*◌, ◌<◌, ◌≤◌, ◌⊎◌, ◌↔◌, List, length, ℤ, ◌≢◌}
+use Rattle.std.specs.Prelude.{◌≡◌, ℕ, ◌+◌, ◌*◌, ◌<◌, ◌≤◌, ◌⊎◌, ◌↔◌, List, length, ℤ, ◌≢◌, Result, Ok}
 use Rattle.algebra.specs.Answer.{gives, refuses, Clear}
 use Rattle.algebra.specs.Words.{row_of}
 use Rattle.reach.specs.Walks.{done, capacity_of}
 use Rattle.reach.specs.Reach.{Stands}
 use Rattle.shots.specs.Lines.{shot_lines}
+use Rattle.shots.specs.declared.refusal.Refusal.{Refusal}
 use Rattle.circuits.specs.Numbering.{circuits_of}
 use Rattle.triples.specs.Sizes.{word_count}
 use Rattle.surfaces.specs.Areas.{area_sum_of}
@@ -34,21 +35,21 @@ use Rattle.lists.specs.Lines.{Accepted}
 use Rattle.walks.specs.Calls.{step_landing, step_call_of, run_call_of}
 use Rattle.walks.specs.Surfaces.{PublishedFlip, Reachable}
 use Rattle.walks.specs.declared.Walk.{Walk}
-use Rattle.walks.specs.declared.Stepped.{Stepped}
-use Rattle.walks.specs.declared.Stepped.TheVariants as S
+use Rattle.walks.specs.declared.Progress.{Progress}
+use Rattle.walks.specs.declared.Progress.TheVariants as P
 
 -- ---- "a table and walk record that only one accepted start from that surface, and that same walk's steps on that patch, have written"
 
 pub data Later (l : List ℤ) (t : List ℕ) (r : Walk) : List ℕ → Walk → Type 0 where
   at_once : Later l t r t r
-  by_step : {u : List ℕ} {v : Walk} → Later l t r u v → (a : Stepped) (u' : List ℕ) (v' : Walk) → step_landing a v' u' ≡ step_call_of l u v → Later l t r u' v'
-  by-run : {u : List ℕ} {v : Walk} → Later l t r u v → (b : ℕ) (a : Stepped) (u' : List ℕ) (v' : Walk) → step_landing a v' u' ≡ run_call_of l u v b → Later l t r u' v'
+  by_step : {u : List ℕ} {v : Walk} → Later l t r u v → (a : Result Progress Refusal) (u' : List ℕ) (v' : Walk) → step_landing a v' u' ≡ step_call_of l u v → Later l t r u' v'
+  by-run : {u : List ℕ} {v : Walk} → Later l t r u v → (b : ℕ) (a : Result Progress Refusal) (u' : List ℕ) (v' : Walk) → step_landing a v' u' ≡ run_call_of l u v b → Later l t r u' v'
   moved : {u : List ℕ} {v : Walk} → Later l t r u v → (u' : List ℕ) → v.rows ≤ capacity_of word_count (length u') → ((p : ℕ) → p < v.rows → row_of word_count u' p ≡ row_of word_count u p) → Later l t r u' v
 
 -- ---- "If no step is refused"
 
 abbrev pub StepsMade : List ℤ → List ℕ → Walk → ℕ → List ℕ → Walk → Type 0
-StepsMade l t r k u v = step_landing S.Made v u ≡ run_call_of l t r k
+StepsMade l t r k u v = step_landing (Ok P.Made) v u ≡ run_call_of l t r k
 
 abbrev pub StepDone : List ℤ → List ℕ → Walk → Type 0
 StepDone l u v = (step_call_of l u v).answer ≡ gives done

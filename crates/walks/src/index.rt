@@ -1,87 +1,110 @@
-// Which rows a table has: an index over the first of them, kept by a run. Rows of one place are linked, the last first; the rows behind those are looked through.
-ghost use Rattle.std.specs.Prelude.{◌≡◌, ◌+◌, ◌*◌, ◌<◌, ◌≤◌, ◌||◌, length, replicate};
-ghost use Rattle.reach.specs.Walks.{seen_in};
+// The rows of a run, and which lists are among them: an index over the first of them. Rows of one place are linked, the last first; the rows behind those are looked through.
+ghost use Rattle.std.specs.Prelude.{◌≡◌, ◌+◌, ◌<◌, ◌≤◌, ◌||◌, length};
+ghost use Rattle.algebra.specs.Words.{row_of};
+ghost use Rattle.reach.specs.Walks.{capacity_of, seen_in};
 ghost use Rattle.triples.specs.Sizes.{word_count};
 ghost use Rattle.triples.specs.Sets.{words_of};
-ghost use Rattle.walks.specs.Index.{spots, indexed_most, spot_of, covered_of, noted_of, Indexed};
+ghost use Rattle.walks.specs.Index.{spots, spot_of, covered_of, Indexed};
 
-use triples::{Triples, WORDS, rows, sets};
+use super::Walk;
+use triples::{Triples, rows};
 
 // The places, and the rows that the index covers.
-pub const SPOTS: usize = 1021;
+const SPOTS: usize = 1021;
 
-pub const INDEXED_MOST: usize = 4096;
+const INDEXED_MOST: usize = 4096;
 
-pub const INDEX: usize = SPOTS + INDEXED_MOST;
+const INDEX: usize = SPOTS + INDEXED_MOST;
+
+// The lent table, the walk record over it, and the index of the rows in use.
+#[derive(Drop)]
+pub struct Rows<'a> {
+    pub table: &'a mut [u64],
+    pub walk: Walk,
+    index: [u16; INDEX],
+    ghost fits: { walk.rows ≤ capacity_of word_count (length table.now) },
+    ghost indexed: { Indexed table.now walk.rows index },
+}
 
 // The place of a list.
 fn spot(list: Triples) -> usize
     ensures { (result ≡ spot_of (words_of list)) × (result < spots) }
 {
-    let mut a = 0;
-    let mut i = 0;
-    while i < WORDS {
-        a = (a * 32 + sets::word(list, i) % (SPOTS as u64)) % (SPOTS as u64);
-        i += 1;
-    }
-    a as usize
+    list.words
+        .iter()
+        .fold(0, |a, word| (a * 32 + word % SPOTS as u64) % SPOTS as u64) as usize
 }
 
-// Whether the list is one of the rows that the index does not cover.
-fn behind(table: &[u64], rows: usize, list: Triples) -> bool
-    requires { word_count * rows ≤ length table.now }
-    ensures { seen_in word_count table.now rows (words_of list) ≡ result || seen_in word_count table.now (covered_of rows) (words_of list) }
-{
-    let mut p = rows;
-    while INDEXED_MOST < p {
-        p -= 1;
-        if rows::is_row(table, p, list) {
+impl<'a> Rows<'a> {
+    // Its rows are put into an empty index.
+    pub fn new(table: &'a mut [u64], walk: Walk) -> Rows<'a>
+        requires { walk.rows ≤ capacity_of word_count (length table.old) }
+        ensures same_reference { result.table.ghost_name ≡ table.entry.ghost_name }
+        ensures same_values { (result.table.now ≡ table.old) × (result.walk ≡ walk) }
+    {
+        let mut known = Rows {
+            table,
+            walk: Walk {
+                rows: 0,
+                step: walk.step,
+            },
+            index: [0u16; INDEX],
+        };
+        for p in 0..walk.rows {
+            known.note(known.row(p));
+        }
+        known
+    }
+
+    // Row p of the table.
+    pub fn row(&self, p: usize) -> Triples
+        requires { p < capacity_of word_count (length self.now.table.now) }
+        ensures { words_of result ≡ row_of word_count self.now.table.now p }
+    {
+        rows::row_at(self.table, p)
+    }
+
+    // The next row, the list, is put into the index.
+    pub fn note(&mut self, list: Triples)
+        requires { (self.old.walk.rows < capacity_of word_count (length self.old.table.now)) × (row_of word_count self.old.table.now self.old.walk.rows ≡ words_of list) }
+        ensures same_reference { self.new.table.ghost_name ≡ self.old.table.ghost_name }
+        ensures counted { (self.new.table.now ≡ self.old.table.now) × (self.new.walk ≡ record { rows = self.old.walk.rows + 1; step = self.old.walk.step }) }
+    {
+        let p = self.walk.rows;
+        if p < INDEXED_MOST {
+            let s = spot(list);
+            let last = self.index[s];
+            self.index[SPOTS + p] = last;
+            self.index[s] = (p + 1) as u16;
+        }
+        self.walk.rows += 1;
+    }
+
+    // Whether the list is one of the rows that the index does not cover.
+    fn behind(&self, list: Triples) -> bool
+        ensures { seen_in word_count self.now.table.now self.now.walk.rows (words_of list) ≡ result || seen_in word_count self.now.table.now (covered_of self.now.walk.rows) (words_of list) }
+    {
+        (INDEXED_MOST..self.walk.rows)
+            .rev()
+            .any(|p| rows::is_row(self.table, p, list))
+    }
+
+    // Whether the list is one of the rows.
+    pub fn seen(&self, list: Triples) -> bool
+        ensures { result ≡ seen_in word_count self.now.table.now self.now.walk.rows (words_of list) }
+    {
+        if self.behind(list) {
             return true;
         }
-    }
-    false
-}
-
-// Whether the list is one of the first rows.
-pub fn seen(table: &[u64], index: &[u16], rows: usize, list: Triples) -> bool
-    requires { (word_count * rows ≤ length table.now) × Indexed table.now rows index.now }
-    ensures { result ≡ seen_in word_count table.now rows (words_of list) }
-{
-    if behind(table, rows, list) {
-        return true;
-    }
-    let mut next = index[spot(list)] as usize;
-    while 0 < next {
-        let p = next - 1;
-        if rows::is_row(table, p, list) {
-            return true;
+        let mut next = usize::from(self.index[spot(list)]);
+        // The rows of one place are linked, so there is no range to go over.
+        while 0 < next {
+            let p = next - 1;
+            if rows::is_row(self.table, p, list) {
+                return true;
+            }
+            next = usize::from(self.index[SPOTS + p]);
         }
-        next = index[SPOTS + p] as usize;
-    }
-    false
-}
-
-// Row p, the list, is put into the index.
-pub fn note(index: &mut [u16], p: usize, list: Triples)
-    requires { length index.old ≡ spots + indexed_most }
-    ensures { index.new ≡ noted_of index.old p (words_of list) }
-{
-    if p < INDEXED_MOST {
-        let s = spot(list);
-        let last = index[s];
-        index[SPOTS + p] = last;
-        index[s] = (p + 1) as u16;
-    }
-}
-
-// The first rows of the table are put into an empty index.
-pub fn fill(table: &[u64], rows: usize, index: &mut [u16])
-    requires { (word_count * rows ≤ length table.now) × (index.old ≡ replicate (spots + indexed_most) 0) }
-    ensures { Indexed table.now rows index.new }
-{
-    let mut p = 0;
-    while p < rows {
-        note(index, p, rows::row_at(table, p));
-        p += 1;
+        false
     }
 }

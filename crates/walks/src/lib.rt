@@ -4,15 +4,19 @@
 //   step     made, done              1-4, 15, the row's 7 10 8 9, 11
 //   run      made, done              as a step
 //
-// Each has a twin, start_at, step_at, run_at, that takes the record by value and hands it back. Every call takes every input; specs/Calls.antt says what it answers and leaves,
-// specs/Lines.antt when it refuses, specs/Demand.antt what a walk lists.
+// Every call takes every input; specs/Calls.antt says what it answers and leaves, specs/Lines.antt when it refuses, specs/Demand.antt what a walk lists.
 #![tactic(auto)]
 
 ghost use Rattle.std.specs.Prelude.{◌≡◌};
-ghost use Rattle.walks.specs.Calls.{start_landing, step_landing, after_start, after_step, start_call_of, step_call_of, run_call_of};
+ghost use Rattle.walks.specs.Calls.{start_landing, step_landing, start_call_of, step_call_of, run_call_of};
 
-use circuits::CIRCUITS_MOST;
-use triples::Triples;
+use arrayvec::ArrayVec;
+use index::Rows;
+use lists::HELD_WORDS;
+use lists::kernel::Held;
+use ready::kernel::Ready;
+use shots::Refusal;
+use triples::{Triples, rows};
 
 mod index;
 mod steps;
@@ -28,110 +32,95 @@ pub struct Walk {
     pub step: usize,
 }
 
-#[derive(Clone, Copy)]
-pub enum Started {
-    Started,
-    Refused(u8),
-}
-
-#[derive(Clone, Copy)]
-pub enum Stepped {
+/// What a step or a run answers that is not refused: it made what was asked, or the walk is at its end.
+#[derive(Clone, Copy, Debug, PartialEq, Eq)]
+pub enum Progress {
     Made,
     Done,
-    Refused(u8),
 }
 
-#[derive(Clone, Copy)]
-pub struct AfterStart {
-    pub answer: Started,
-    pub walk: Walk,
-}
-
-#[derive(Clone, Copy)]
-pub struct AfterStep {
-    pub answer: Stepped,
-    pub walk: Walk,
-}
-
-pub fn start_at(shots: &[i32], list: Triples, table: &mut [u64], walk: Walk) -> AfterStart
-    ensures { after_start table.new result ≡ start_call_of shots.now list table.old walk }
+#[tactic(auto, using(reach::proofs::StepLaws::start_full, reach::proofs::StepLaws::start_writes))]
+pub fn start(
+    shots: &[i32],
+    list: Triples,
+    table: &mut [u64],
+    walk: &mut Walk,
+) -> Result<(), Refusal>
+    ensures { start_landing result walk.new table.new ≡ start_call_of shots.now list table.old walk.old }
 {
-    let tested = lists::test(shots, list);
-    match tested {
-        lists::Tested::Refused(number) => AfterStart {
-            answer: Started::Refused(number),
-            walk,
-        },
-        lists::Tested::Accepted => {
-            if table::capacity(table.len()) == 0 {
-                return AfterStart {
-                    answer: Started::Refused(11),
-                    walk,
-                };
-            }
-            triples::rows::put_row(table, 0, list);
-            AfterStart {
-                answer: Started::Started,
-                walk: Walk { rows: 1, step: 0 },
-            }
-        }
+    lists::test(shots, list)?;
+    if table::capacity(table.len()) == 0 {
+        return Err(Refusal::Room);
     }
-}
-
-pub fn run_at(shots: &[i32], table: &mut [u64], walk: Walk, b: usize) -> AfterStep
-    ensures { after_step table.new result ≡ run_call_of shots.now table.old walk b }
-{
-    let refusal = shots::tests::refusal(shots);
-    if refusal != 0 {
-        return AfterStep {
-            answer: Stepped::Refused(refusal),
-            walk,
-        };
-    }
-    let mut plus = [0u16; CIRCUITS_MOST];
-    let mut minus = [0u16; CIRCUITS_MOST];
-    let mut held = [0u64; ready::kernel::READY_WORDS];
-    let count = ready::kernel::prepare(shots, &mut plus, &mut minus, &mut held);
-    if table::impossible(table::capacity(table.len()), walk, count) {
-        return AfterStep {
-            answer: Stepped::Refused(15),
-            walk,
-        };
-    }
-    let mut index = [0u16; index::INDEX];
-    index::fill(table, walk.rows, &mut index);
-    steps::several(
-        shots, &plus, &minus, &held, count, table, &mut index, walk, b,
-    )
+    rows::put_row(table, 0, list);
+    *walk = Walk { rows: 1, step: 0 };
+    Ok(())
 }
 
 // A step is a run of one.
-pub fn step_at(shots: &[i32], table: &mut [u64], walk: Walk) -> AfterStep
-    ensures { after_step table.new result ≡ step_call_of shots.now table.old walk }
-{
-    run_at(shots, table, walk, 1)
-}
-
-pub fn start(shots: &[i32], list: Triples, table: &mut [u64], walk: &mut Walk) -> Started
-    ensures { start_landing result walk.new table.new ≡ start_call_of shots.now list table.old walk.old }
-{
-    let out = start_at(shots, list, table, *walk);
-    *walk = out.walk;
-    out.answer
-}
-
-pub fn step(shots: &[i32], table: &mut [u64], walk: &mut Walk) -> Stepped
+#[tactic(auto, using(reach::proofs::RunLaws::run_one))]
+pub fn step(shots: &[i32], table: &mut [u64], walk: &mut Walk) -> Result<Progress, Refusal>
     ensures { step_landing result walk.new table.new ≡ step_call_of shots.now table.old walk.old }
 {
-    let out = step_at(shots, table, *walk);
-    *walk = out.walk;
-    out.answer
+    run(shots, table, walk, 1)
 }
 
-pub fn run(shots: &[i32], table: &mut [u64], walk: &mut Walk, b: usize) -> Stepped
+pub fn run(shots: &[i32], table: &mut [u64], walk: &mut Walk, b: usize) -> Result<Progress, Refusal>
     ensures { step_landing result walk.new table.new ≡ run_call_of shots.now table.old walk.old b }
 {
-    let out = run_at(shots, table, *walk, b);
-    *walk = out.walk;
-    out.answer
+    shots::accept(shots)?;
+    let mut ready = Ready {
+        held: Held {
+            circuits: ArrayVec::new(),
+            rows: [0; HELD_WORDS],
+        },
+        stars: ArrayVec::new(),
+    };
+    ready::kernel::prepare(shots, &mut ready);
+    if table::impossible(
+        table::capacity(table.len()),
+        *walk,
+        ready.held.circuits.len(),
+    ) {
+        return Err(Refusal::Walk);
+    }
+    let mut known = Rows::new(table, *walk);
+    let answer = steps::several(shots, &ready, &mut known, b);
+    *walk = known.walk;
+    answer
+}
+
+// The same with the record by value, for a program that keeps it in a local: how it stands at the end is handed back beside the answer. README names the three, so they stay beside those that change it in place.
+pub fn start_at(
+    shots: &[i32],
+    list: Triples,
+    table: &mut [u64],
+    walk: Walk,
+) -> (Result<(), Refusal>, Walk)
+    ensures { start_landing result.0 result.1 table.new ≡ start_call_of shots.now list table.old walk }
+{
+    let mut walk = walk;
+    let answer = start(shots, list, table, &mut walk);
+    (answer, walk)
+}
+
+pub fn step_at(shots: &[i32], table: &mut [u64], walk: Walk) -> (Result<Progress, Refusal>, Walk)
+    ensures { step_landing result.0 result.1 table.new ≡ step_call_of shots.now table.old walk }
+{
+    let mut walk = walk;
+    let answer = step(shots, table, &mut walk);
+    (answer, walk)
+}
+
+pub fn run_at(
+    shots: &[i32],
+    table: &mut [u64],
+    walk: Walk,
+    b: usize,
+) -> (Result<Progress, Refusal>, Walk)
+    ensures { step_landing result.0 result.1 table.new ≡ run_call_of shots.now table.old walk b }
+{
+    let mut walk = walk;
+    let answer = run(shots, table, &mut walk, b);
+    (answer, walk)
 }

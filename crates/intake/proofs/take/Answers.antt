@@ -1,45 +1,34 @@
 -- `intake::take` meets its contract: the edition or the number of shots is refused, or the shots are taken by the edition's foot.
-use mathlib.Core.Path.{◌≡◌, ◌∙◌, ap}
-use mathlib.Core.Bool.{false}
-use mathlib.Core.List.{List}
-use lib.ListN.{take}
-use Rattle.intake.specs.Tests.{count_rule, edition_rule}
+use Rattle.std.proofs.Common.{rules, ◌≡◌, sym, ◌∙◌, ap, Err, take, length}
+use lib.ListN.{length-take}
+use native.Mathlib.Omega.{arith}
+use Rattle.shots.specs.Sizes.{shots_most}
+use Rattle.shots.specs.Calls.{read_patch}
+use Rattle.intake.specs.Tests.{count_rule}
 use Rattle.intake.specs.Calls.{taken_by, take_of}
-use Rattle.intake.specs.declared.Shot.{Shot}
-use Rattle.intake.specs.declared.Foot.{Foot}
-use Rattle.intake.proofs.CallChains.{edition_known, front_fit, take_unfit}
-use Rattle.intake.proofs.take.Lts
-use Rattle.intake.proofs.take.Reads
-use Rattle.intake.proofs.take.Tie
+use Rattle.intake.proofs.CallChains.{count_few, take_miscounted, take_unknown, take_known}
 use Rattle.intake.proofs.take.Goals as goal
 
-abbrev Start : Type 0
-Start = Lts.Start Tie.the-claims Reads.Pre Reads.Post
-
-abbrev Else-number-ne0 : Type 0
-Else-number-ne0 = Lts.Else1 Tie.the-claims Reads.Pre Reads.Post
-
-abbrev given : Start → List Shot
-given s = take s.args.count s.args.shots
-
-pub returns-then-number-ne0 : goal.returns-then-number-ne0
+pub returns-in_err-foot : goal.returns-in_err-foot
 unfolding take_of
-returns-then-number-ne0 c =
-    let m = c.before.before in
-    let s = m.before in
-    c.refused.ensures ∙ take_unfit s.args.edition s.args.count m.unfit-number.ensures c.if-number-ne0.true (given c.before.before.before)
+returns-in_err-foot c =
+    let a = c.args in
+    let e : c.from_residual.result ≡ Err c.in_err-foot.field-0.0 = search rules in
+    ap read_patch e ∙ take_unknown a.edition (count_rule a.count) (take a.count a.shots) a.count c.in_err-foot.ensures
 
-fit : (e : Else-number-ne0) → let s = e.before.before in ((edition_rule s.args.edition).broken ≡ false) × ((count_rule s.args.count).broken ≡ false)
-fit e = let s = e.before.before in front_fit s.args.edition s.args.count e.unfit-number.ensures e.if-number-ne0.false
-
-pub taken-requires : goal.taken-requires
-taken-requires c = (fit c.before).1
+pub returns-then-miscounted : goal.returns-then-miscounted
+unfolding take_of
+returns-then-miscounted c =
+    let a = c.args in
+    let r = count_rule a.count in
+    let l = take a.count a.shots in
+    take_miscounted _ l a.count r (sym c.if-miscounted.ensures) ∙ take_known a.edition r l a.count c.in_ok-foot.ensures
 
 pub returns : goal.returns
 unfolding take_of
 returns c =
-    let f = c.before in
-    let s = f.before.before.before in
-    c.taken.ensures
-    ∙ ap (λ (foot : Foot). taken_by foot (count_rule s.args.count) (given c.before.before.before.before) s.args.count) f.foot_of.ensures
-    ∙ edition_known s.args.edition (count_rule s.args.count) (given c.before.before.before.before) s.args.count (fit c.before.before).0
+    let a = c.args in
+    let l = take a.count a.shots in
+    let wide : length a.shots ≡ shots_most = search rules in
+    let m : length l ≡ a.count = omega (arith, length-take a.count a.shots, wide, count_few a.count (sym c.if-miscounted.ensures)) in
+    c.taken.ensures ∙ ap (λ k. taken_by c.in_ok-foot.foot (count_rule k) l k) m ∙ take_known a.edition (count_rule a.count) l a.count c.in_ok-foot.ensures

@@ -1,38 +1,36 @@
 -- `shots::orientation` meets its contract: the chain stops at the run, at the numbers, or gives the area.
-use mathlib.Core.Path.{sym, ◌∙◌}
+use Rattle.std.proofs.Common.{rules, ◌≡◌, ◌∙◌, ap, Err}
 use mathlib.Core.List.{[], ◌∷◌}
 use mir.Syntax.{w64}
 use Rattle.algebra.proofs.SizeLaws.{read_back}
+use Rattle.shots.specs.Refusals.{answered}
 use Rattle.shots.specs.Patch.{count_of}
 use Rattle.shots.specs.Calls.{orientation_of, shots_rule}
 use Rattle.shots.proofs.Patch.{patch_near}
-use Rattle.shots.proofs.Chains.{all_below, shots-refused, rule_broken, rule_kept}
+use Rattle.shots.proofs.Chains.{all_below, run_accepted, run_refused, rule_breaks, rule_keeps}
 use Rattle.shots.proofs.orientation.Goals as goal
 
-pub returns-then-refusal-ne0 : goal.returns-then-refusal-ne0
+pub returns-in_err-accept : goal.returns-in_err-accept
 unfolding orientation_of
-returns-then-refusal-ne0 c = let a = c.args in shots-refused a.shots.now (shots_rule a.shots.now a.a a.b a.c ∷ []) _ c.refusal-refusal.ensures c.if-refusal-ne0.true
+returns-in_err-accept c =
+    let a = c.args in
+    let e : c.from_residual.result ≡ Err c.in_err-accept.field-0.0 = search rules in
+    ap answered e ∙ run_refused a.shots.now (shots_rule a.shots.now a.a a.b a.c ∷ []) _ c.in_err-accept.ensures
 
 pub returns-then-no_shot : goal.returns-then-no_shot
 unfolding orientation_of
-returns-then-no_shot c =
-    let d = c.before.before in
-    let a = d.args in
-    rule_broken a.shots.now (shots_rule a.shots.now a.a a.b a.c) _ d.refusal-refusal.ensures d.if-refusal-ne0.false c.no_shot.ensures c.if-no_shot.true
+returns-then-no_shot c = let a = c.args in rule_breaks a.shots.now (shots_rule a.shots.now a.a a.b a.c) _ c.in_ok-accept.ensures c.no_shot.ensures c.if-no_shot.true
 
-pub area-area-requires : goal.area-area-requires
-area-area-requires c =
-    let d = c.before.before in
-    let a = d.args in
+pub area-requires : goal.area-requires
+area-requires c =
+    let a = c.args in
     let n = count_of a.shots.now in
     let h = all_below n a.a n a.b n a.c c.no_shot.ensures c.if-no_shot.false in
-    (h.0, h.1, h.2, patch_near a.shots.now (sym d.refusal-refusal.ensures ∙ d.if-refusal-ne0.false))
+    (h.0, h.1, h.2, patch_near a.shots.now (run_accepted a.shots.now c.in_ok-accept.ensures))
 
 pub returns : goal.returns
 unfolding orientation_of
 returns c =
-    let b = c.before in
-    let d = b.before.before in
-    let a = d.args in
-    rule_kept a.shots.now (shots_rule a.shots.now a.a a.b a.c) _ d.refusal-refusal.ensures d.if-refusal-ne0.false b.no_shot.ensures b.if-no_shot.false
-    (read_back w64 c.area-area.result c.area-area.type_inv c.area-area.ensures)
+    let a = c.args in
+    rule_keeps a.shots.now (shots_rule a.shots.now a.a a.b a.c) _ c.in_ok-accept.ensures c.no_shot.ensures c.if-no_shot.false
+    (read_back w64 c.area.result c.area.type_inv c.area.ensures)

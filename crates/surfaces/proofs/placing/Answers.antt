@@ -1,40 +1,32 @@
 -- `surfaces::placing` meets its contract: the chain stops at the run, or gives the list.
-use Rattle.std.specs.Prelude.{◌≡◌, List, [], ℤ}
-use mathlib.Core.Path.{sym, ◌∙◌, ap}
+use Rattle.std.proofs.Common.{rules, refl, ◌≡◌, ◌∙◌, ap, Err, []}
 use native.Mathlib.Omega.{arith}
 use Rattle.algebra.specs.Answer.{gives, chain}
-use Rattle.shots.specs.Tests.{refusal_of}
+use Rattle.shots.specs.Refusals.{answer_of}
 use Rattle.shots.proofs.Patch.{patch_few}
-use Rattle.shots.proofs.Chains.{shots-refused, shots_passed}
+use Rattle.shots.proofs.Chains.{run_accepted, run_refused, run_passed}
+use Rattle.triples.specs.Sets.{words_of}
 use Rattle.surfaces.specs.Placing.{placed_of}
 use Rattle.surfaces.specs.Calls.{placing_of}
-use Rattle.surfaces.proofs.placing.Lts
-use Rattle.surfaces.proofs.placing.Reads
-use Rattle.surfaces.proofs.placing.Tie
 use Rattle.surfaces.proofs.placing.Goals as goal
 
-abbrev Else-refusal-ne0 : Type 0
-Else-refusal-ne0 = Lts.Else1 Tie.the-claims Reads.Pre Reads.Post
-
-pub returns-then-refusal-ne0 : goal.returns-then-refusal-ne0
+pub returns-in_err-accept : goal.returns-in_err-accept
 unfolding placing_of
-returns-then-refusal-ne0 c = shots-refused c.args.shots.now [] _ c.refusal-refusal.ensures c.if-refusal-ne0.true
-
--- the run is accepted
-module _ (d : Else-refusal-ne0) where
-  abbrev l : List ℤ
-  l = d.args.shots.now
-
-  right : refusal_of l ≡ 0
-  right = sym d.refusal-refusal.ensures ∙ d.if-refusal-ne0.false
+returns-in_err-accept c =
+    let e : c.from_residual.result ≡ Err c.in_err-accept.field-0.0 = search rules in
+    ap (answer_of words_of) e ∙ run_refused c.args.shots.now [] _ c.in_err-accept.ensures
 
 pub fill-requires : goal.fill-requires
-fill-requires c = let few = (patch_few (l c.before) (right c.before)).1 in (few, omega arith)
+fill-requires c = let l = c.args.shots.now in let few = (patch_few l (run_accepted l c.in_ok-accept.ensures)).1 in (few, omega (arith, few))
 
 pub all-requires : goal.all-requires
-all-requires c =
-    (right c.before.before.before.before, omega (arith, (patch_few (l c.before.before.before.before) (right c.before.before.before.before)).1, c.fill.ensures.0), c.fill.ensures.1)
+all-requires c = (run_accepted c.args.shots.now c.in_ok-accept.ensures, refl)
+
+pub invariant_of-all : goal.invariant_of-all
+invariant_of-all c =
+    let few = (patch_few _ (run_accepted c.args.shots.now c.in_ok-accept.ensures)).1 in
+    record { few = few; room = omega (arith, few, c.fill.ensures.0); holding = c.fill.ensures.1 }
 
 pub returns : goal.returns
 unfolding placing_of chain
-returns c = ap gives c.all.ensures ∙ shots_passed (l c.before.before.before.before.before) [] (placed_of (l c.before.before.before.before.before)) c.refusal-refusal.ensures c.if-refusal-ne0.false
+returns c = let l = c.args.shots.now in ap gives c.all.ensures ∙ run_passed l [] (placed_of l) c.in_ok-accept.ensures

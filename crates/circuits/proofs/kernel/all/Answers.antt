@@ -1,48 +1,79 @@
--- `circuits::kernel::all` meets its contract: the threes, then the fours behind them.
-use mathlib.Core.Path.{refl, sym, ◌∙◌, ap, subst}
-use Rattle.std.specs.Prelude.{◌+◌, length}
-use native.Mathlib.Omega.{arith}
-use Rattle.circuits.specs.Filled.{Filled, filled, pour, Fits}
-use Rattle.circuits.specs.Numbering.{threes, fours, circuits_of}
-use Rattle.circuits.proofs.FilledLaws.{pour-append, fits-pour}
-use Rattle.circuits.proofs.Bounds.{all_fit}
-use Rattle.circuits.proofs.kernel.all.Lts
-use Rattle.circuits.proofs.kernel.all.Reads
-use Rattle.circuits.proofs.kernel.all.Tie
+-- `circuits::kernel::all` meets its contract: the circuits still to come, behind those found, make the whole.
+use Rattle.std.proofs.Common.{rules, refl, ap, List, ◌∙◌}
+use Rattle.arrayvec.specs.ArrayVec.{ArrayVec}
+use Rattle.circuits.specs.declared.Sides.{Sides}
+use Rattle.circuits.specs.Numbering.{threes, threes_from, threes_with, fours, fours_from, fours_with, fours_upon, circuits_of}
+use Rattle.circuits.proofs.FoundLaws.{pouring_start, pouring_last, pouring_into, pouring_room, pouring-turn, pouring_kept, pouring_out, pouring_end, found_most}
+use Rattle.circuits.proofs.kernel.all.Goals.{in-Some, in_default, in-Some-four, in_default-four}
 use Rattle.circuits.proofs.kernel.all.Goals as goal
 
-abbrev Start : Type 0
-Start = Lts.Start Tie.the-claims Reads.Pre Reads.Post
+abbrev items : ArrayVec Sides → List Sides
+items v = v.items
 
-abbrev After-threes-next : Type 0
-After-threes-next = Lts.After-threes Tie.the-claims Reads.Pre Reads.Post
+pub loop-a-init : goal.loop-a-init
+unfolding circuits_of threes
+loop-a-init c = pouring_start (circuits_of c.args.shots.now) c.new-found.ensures
 
-abbrev lent : Start → Filled
-lent s = filled s.args.plus.now s.args.minus.now 0
+pub loop-b-init : goal.loop-b-init
+unfolding threes_from
+loop-b-init c = pouring_into _ _ c.loop-a-test.true c.loop-a.invariant
 
-room : (s : Start) → Fits (lent s) (length (threes s.args.shots.now) + length (fours s.args.shots.now))
-room s = all_fit s.args.shots.now (lent s) s.requires.1 refl s.requires.2 s.requires.3
+pub loop-c-init : goal.loop-c-init
+unfolding threes_with
+loop-c-init c = pouring_into _ _ c.loop-b-test.true c.loop-b.invariant
 
-pub threes-next-requires : goal.threes-next-requires
-threes-next-requires c = let s = c.before.before.before.before in let r = room c.before.before.before.before in (s.requires.0, s.requires.1, (omega (arith, r.0), omega (arith, r.1)))
+pub push-requires : goal.push-requires
+push-requires c = (search rules, pouring_room _ _ (pouring_into _ _ c.loop-c-test.true c.loop-c.invariant) c.in-Some.ensures (found_most _ refl c.requires.1))
 
--- the fours behind the threes
-module _ (t : After-threes-next) where
-  abbrev start : Start
-  start = t.before.before.before.before.before
+pub loop-c-preserved : goal.loop-c-preserved
+loop-c-preserved c =
+    let p = pouring_into _ _ c.loop-c-test.true c.loop-c.invariant in
+    elim c.match-three.branch [
+      | in-Some w ↦ pouring-turn _ _ p (ap items w.found-is ∙ w.push.ensures.items) w.in-Some.ensures
+      | in_default w ↦ pouring_kept _ _ p (ap items w.found-is) w.in_default.ensures
+    ]
 
-  after : Fits (pour (lent start) (threes start.args.shots.now)) (length (fours start.args.shots.now))
-  after = fits-pour (lent start) (threes start.args.shots.now) (length (fours start.args.shots.now)) (room start)
+pub loop-b-preserved : goal.loop-b-preserved
+loop-b-preserved c = pouring_out _ _ c.loop-c-test.false c.loop-c.invariant
 
-pub fours-requires : goal.fours-requires
-fours-requires c =
-    let t = c.before.before.before.before.before.before in
-    ((start c.before.before.before.before.before.before).requires.0, (start c.before.before.before.before.before.before).requires.1, subst (λ (f : Filled). Fits f (length (fours (start c.before.before.before.before.before.before).args.shots.now))) (sym t.threes-next.ensures) (after c.before.before.before.before.before.before))
+pub loop-a-preserved : goal.loop-a-preserved
+loop-a-preserved c = pouring_out _ _ c.loop-b-test.false c.loop-b.invariant
+
+pub loop-a-2-init : goal.loop-a-2-init
+unfolding fours
+loop-a-2-init c = pouring_last (pouring_out _ _ c.loop-a-test.false c.loop-a.invariant)
+
+pub loop-b-2-init : goal.loop-b-2-init
+unfolding fours_from
+loop-b-2-init c = pouring_into _ _ c.loop-a-2-test.true c.loop-a-2.invariant
+
+pub loop-c-2-init : goal.loop-c-2-init
+unfolding fours_with
+loop-c-2-init c = pouring_into _ _ c.loop-b-2-test.true c.loop-b-2.invariant
+
+pub loop-d-init : goal.loop-d-init
+unfolding fours_upon
+loop-d-init c = pouring_into _ _ c.loop-c-2-test.true c.loop-c-2.invariant
+
+pub push-requires-in-Some-four : goal.push-requires-in-Some-four
+push-requires-in-Some-four c = (search rules, pouring_room _ _ (pouring_into _ _ c.loop-d-test.true c.loop-d.invariant) c.in-Some-four.ensures (found_most _ refl c.requires.1))
+
+pub loop-d-preserved : goal.loop-d-preserved
+loop-d-preserved c =
+    let p = pouring_into _ _ c.loop-d-test.true c.loop-d.invariant in
+    elim c.match-four.branch [
+      | in-Some-four w ↦ pouring-turn _ _ p (ap items w.found-is ∙ w.push-in-Some-four.ensures.items) w.in-Some-four.ensures
+      | in_default-four w ↦ pouring_kept _ _ p (ap items w.found-is) w.in_default-four.ensures
+    ]
+
+pub loop-c-2-preserved : goal.loop-c-2-preserved
+loop-c-2-preserved c = pouring_out _ _ c.loop-d-test.false c.loop-d.invariant
+
+pub loop-b-2-preserved : goal.loop-b-2-preserved
+loop-b-2-preserved c = pouring_out _ _ c.loop-c-2-test.false c.loop-c-2.invariant
+
+pub loop-a-2-preserved : goal.loop-a-2-preserved
+loop-a-2-preserved c = pouring_out _ _ c.loop-b-2-test.false c.loop-b-2.invariant
 
 pub returns : goal.returns
-unfolding circuits_of
-returns c =
-    let q = c.before.before.before.before in
-    let t = q.before.before.before.before.before.before.before in
-    let l = (start c.before.before.before.before.before.before.before.before.before.before.before.before).args.shots.now in
-    q.fours.ensures ∙ ap (λ (f : Filled). pour f (fours l)) t.threes-next.ensures ∙ sym (pour-append (lent (start c.before.before.before.before.before.before.before.before.before.before.before.before)) (threes l) (fours l))
+returns c = pouring_end (pouring_out _ _ c.loop-a-2-test.false c.loop-a-2.invariant)

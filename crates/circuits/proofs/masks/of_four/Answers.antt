@@ -7,6 +7,3 @@ pub join-requires : goal.join-requires
 join-requires c =
     let s = c.before in
     (search rules, rw c.of_three.ensures (below-three s.args.a s.args.b s.args.c s.args.d s.args.p s.args.q s.requires.0 s.requires.1 s.requires.2))
-
-pub returns : goal.returns
-returns c = rw (c.join.ensures, c.of_three.ensures)

@@ -11,6 +11,3 @@ pub join-requires-2 : goal.join-requires-2
 join-requires-2 c =
     let s = c.before.before in
     (search rules, rw (c.join.ensures, c.begin.ensures) (below-joined (begun s.args.a) s.args.b s.args.c s.args.p (below-begun s.args.a s.args.b s.requires.0) s.requires.1))
-
-pub returns : goal.returns
-returns c = rw (c.join-2.ensures, c.join.ensures, c.begin.ensures)

@@ -18,6 +18,6 @@ pub returns-then-units-i-eq0 : goal.returns-then-units-i-eq0
 unfolding shot_in
 returns-then-units-i-eq0 c = in-metres _ _ _ c.if-units-i-eq0.true
 
-pub returns : goal.returns
+pub returns-else-units-i-eq0 : goal.returns-else-units-i-eq0
 unfolding shot_in
-returns c = in-feet _ _ _ c.if-units-i-eq0.false
+returns-else-units-i-eq0 c = in-feet _ _ _ c.if-units-i-eq0.false

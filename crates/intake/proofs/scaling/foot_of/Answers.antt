@@ -1,15 +1,21 @@
 -- `intake::scaling::foot_of` meets its contract: the code's numbers are those of the definition.
-use mathlib.Core.Path.{sym, ap}
-use mathlib.Core.Bool.{Bool, cond}
-use borrow.Author.Tests.{eq-eqb, ne_eqb}
+use mathlib.Core.Path.{refl, sym, ap}
+use borrow.Author.Rules.{rules}
+use borrow.Author.Tests.{ne_eqb}
 use lib.Ieee.{of_bits, of_int}
-use Rattle.intake.specs.Scaling.{float, survey_foot, international_foot, foot_of}
+use Rattle.algebra.specs.Answer.{chain}
+use Rattle.intake.specs.Scaling.{float, foot_of}
+use Rattle.intake.specs.Tests.{foot_in}
 use Rattle.intake.proofs.scaling.foot_of.Goals as goal
 
-pub returns-then-edition-eq1 : goal.returns-then-edition-eq1
-unfolding foot_of float of_bits of_int
-returns-then-edition-eq1 c = sym (ap (λ (b : Bool). cond b survey_foot international_foot) (eq-eqb _ _ c.if-edition-eq1.true))
+pub returns-in-1 : goal.returns-in-1
+unfolding foot_in chain foot_of float of_bits of_int
+returns-in-1 c = ap foot_in (sym c.in-1.is)
 
-pub returns : goal.returns
-unfolding foot_of float of_bits of_int
-returns c = sym (ap (λ (b : Bool). cond b survey_foot international_foot) (ne_eqb _ _ c.if-edition-eq1.false))
+pub returns-in-2 : goal.returns-in-2
+unfolding foot_in chain foot_of float of_bits of_int
+returns-in-2 c = ap foot_in (sym c.in-2.is)
+
+pub returns-in_default : goal.returns-in_default
+unfolding foot_in chain
+returns-in_default c = rw (ne_eqb c.args.edition 1 (search rules), ne_eqb c.args.edition 2 (search rules)) refl

@@ -1,16 +1,15 @@
--- `lists::edges::open` meets its contract: no shot so far has an open edge to a smaller one.
-use borrow.Author.Rules.{rules}
-use Rattle.algebra.proofs.LoopLaws.{any_none, found, go_on_lem, none}
+-- `lists::edges::open` meets its contract: some shot has an open edge to a smaller one.
+use Rattle.std.proofs.Common.{rules, refl}
+use borrow.Author.Tests.{tests}
+use Rattle.algebra.specs.Loops.{any}
+use Rattle.algebra.specs.Words.{both_of, alone_of, row_of}
+use Rattle.algebra.proofs.ChainLaws.{any_called, road_upto}
+use Rattle.triples.specs.Sizes.{word_count}
+use Rattle.triples.specs.Sets.{words_of}
+use Rattle.lists.specs.Held.{inner_row}
 use Rattle.lists.proofs.edges.open.Goals as goal
 
-pub loop-j-init : goal.loop-j-init
-loop-j-init c = (search rules, any_none _)
-
-pub returns-then-open_with : goal.returns-then-open_with
-returns-then-open_with c = found _ _ _ c.loop-j-test.true c.open_with.ensures c.if-open_with.true
-
-pub loop-j-preserved : goal.loop-j-preserved
-loop-j-preserved c = (search rules, go_on_lem _ _ c.loop-j.invariant.1 c.open_with.ensures c.if-open_with.false)
-
 pub returns : goal.returns
-returns c = none _ _ _ c.loop-j.invariant.0 c.loop-j-test.false c.loop-j.invariant.1
+returns c =
+    any_called (λ j. any j (λ i. alone_of (both_of (words_of c.args.list) (row_of word_count c.args.held.now (inner_row i j))))) c.args.n _ _ _ c.any.ensures.ran (road_upto _ refl)
+    (λ x b q k. search (rules, tests))

@@ -1,9 +1,7 @@
-use Prim.Native.Nat.{◌-◌, ◌≤◌, ◌<◌}
+use Prim.Native.Nat.{◌<◌}
+use Rattle.outline.specs.Wrapping.{is_north}
 use Rattle.outline.proofs.ChainSteps.{Coming}
 use Rattle.outline.proofs.wrapping.chain.Given as goal
 
-abbrev pub invariant-loop-count : goal.invariant-loop-count
-invariant-loop-count l = (l.count ≤ l.n) × (l.p < l.n) × Coming l.shots l.north l.n l.at l.count l.p
-
-abbrev pub decreases-loop-count : goal.decreases-loop-count
-decreases-loop-count l = l.n - l.count
+abbrev pub invariant-loop : goal.invariant-loop
+invariant-loop l = (l.p < l.n) × Coming l.shots (is_north l.facing) l.n l.corners.items l.counter l.p

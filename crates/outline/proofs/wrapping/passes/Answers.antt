@@ -1,62 +1,60 @@
 -- `outline::wrapping::passes` meets its contract: one case for each sign.
 use mathlib.Core.Path.{◌≡◌, refl, sym, ◌∙◌, ap}
-use mathlib.Core.Bool.{Bool, true, false, not, ◌&&◌}
+use mathlib.Core.Bool.{Bool, true, not, ◌&&◌}
 use mathlib.Core.List.{List}
 use Prim.Native.Nat.{ℕ}
-use borrow.Author.Tests.{eq-eqb, ne_eqb}
-use lib.IntN.{ℤ}
-use Rattle.algebra.specs.Sign.{Sign, minus, nought, plus, is_nought, is_plus}
-use Rattle.algebra.proofs.SizeLaws.{sign_is_plus, sign_is_nought}
+use borrow.Author.Rules.{rules}
+use lib.IntN.{ℤ, pos}
+use Rattle.algebra.specs.Sign.{Sign, minus, nought, plus, value}
 use Rattle.shots.specs.Patch.{orient_of, before_of}
-use Rattle.outline.specs.Wrapping.{outer_of, passes_of}
+use Rattle.outline.specs.Wrapping.{is_north, outer_of, passes_of}
 use Rattle.outline.proofs.wrapping.passes.Goals as goal
 
 -- a shot ahead of p, by its sign
-module _ (l : List ℤ) (b : Bool) (p q k : ℕ) (h : before_of l p k ≡ true) where
+module _ (l : List ℤ) (b : Bool) (p q k : ℕ) (h : true ≡ before_of l p k) where
   outer : {r : Bool} → r ≡ outer_of b (before_of l q k) (orient_of l p q k) → r ≡ passes_of l b p q k
   unfolding passes_of
-  outer e = e ∙ sym (ap (λ (t : Bool). t && outer_of b (before_of l q k) (orient_of l p q k)) h)
+  outer e = e ∙ ap (λ (t : Bool). t && outer_of b (before_of l q k) (orient_of l p q k)) h
 
-  along : is_nought (orient_of l p q k) ≡ true → before_of l q k ≡ passes_of l b p q k
-  along e = outer (go (orient_of l p q k) e)
-    where
-      go : (s : Sign) → is_nought s ≡ true → before_of l q k ≡ outer_of b (before_of l q k) s
-      go minus h = cc
-      go nought h = refl
-      go plus h = cc
+  module _ {z : ℤ} (v : z ≡ value (orient_of l p q k)) where
+    along : z ≡ pos 0 → before_of l q k ≡ passes_of l b p q k
+    unfolding value
+    along e = outer (go (orient_of l p q k) (sym v ∙ e))
+      where
+        go : (s : Sign) → value s ≡ pos 0 → before_of l q k ≡ outer_of b (before_of l q k) s
+        go minus h = cc
+        go nought h = refl
+        go plus h = cc
 
-  left : is_plus (orient_of l p q k) ≡ true → b ≡ passes_of l b p q k
-  left e = outer (go (orient_of l p q k) e)
-    where
-      go : (s : Sign) → is_plus s ≡ true → b ≡ outer_of b (before_of l q k) s
-      go minus h = cc
-      go nought h = cc
-      go plus h = refl
+    left : z ≡ pos 1 → b ≡ passes_of l b p q k
+    unfolding value
+    left e = outer (go (orient_of l p q k) (sym v ∙ e))
+      where
+        go : (s : Sign) → value s ≡ pos 1 → b ≡ outer_of b (before_of l q k) s
+        go minus h = cc
+        go nought h = cc
+        go plus h = refl
 
-  right : is_nought (orient_of l p q k) ≡ false → is_plus (orient_of l p q k) ≡ false → not b ≡ passes_of l b p q k
-  right e f = outer (go (orient_of l p q k) e f)
-    where
-      go : (s : Sign) → is_nought s ≡ false → is_plus s ≡ false → not b ≡ outer_of b (before_of l q k) s
-      go minus h i = refl
-      go nought h i = cc
-      go plus h i = cc
+    right : (z ≡ pos 0 → ⊥) → (z ≡ pos 1 → ⊥) → not b ≡ passes_of l b p q k
+    unfolding value
+    right e f = outer (go (orient_of l p q k) (λ h. e (v ∙ h)) (λ h. f (v ∙ h)))
+      where
+        go : (s : Sign) → (value s ≡ pos 0 → ⊥) → (value s ≡ pos 1 → ⊥) → not b ≡ outer_of b (before_of l q k) s
+        go minus h i = refl
+        go nought h i = absurd (h refl)
+        go plus h i = absurd (i refl)
 
-pub returns-then-sign-eq0 : goal.returns-then-sign-eq0
-returns-then-sign-eq0 c =
-    let s = c.before.before in
-    c.precedes-then-sign-eq0.ensures ∙ along _ _ _ _ _ (sym s.precedes.ensures ∙ s.if-precedes.true) (sym (sign_is_nought _ _ s.sign-sign.ensures) ∙ eq-eqb _ _ c.if-sign-eq0.true)
+pub returns-in-0 : goal.returns-in-0
+returns-in-0 c = c.precedes-in-0.ensures ∙ along _ _ _ _ _ c.if-precedes.ensures c.sign.ensures (search rules)
 
-pub returns-then-sign-eq1 : goal.returns-then-sign-eq1
-returns-then-sign-eq1 c =
-    let s = c.before.before in
-    left _ _ _ _ _ (sym s.precedes.ensures ∙ s.if-precedes.true) (sym (sign_is_plus _ _ s.sign-sign.ensures) ∙ eq-eqb _ _ c.if-sign-eq1.true)
+pub returns-in-1 : goal.returns-in-1
+returns-in-1 c = search rules ∙ left _ _ _ _ _ c.if-precedes.ensures c.sign.ensures (search rules)
 
-pub returns-then-precedes : goal.returns-then-precedes
-returns-then-precedes c =
-    let s = c.before.before in
-    right _ _ _ _ _ (sym s.precedes.ensures ∙ s.if-precedes.true)
-    (sym (sign_is_nought _ _ s.sign-sign.ensures) ∙ ne_eqb _ _ c.if-sign-eq0.false) (sym (sign_is_plus _ _ s.sign-sign.ensures) ∙ ne_eqb _ _ c.if-sign-eq1.false)
+pub returns-in_default : goal.returns-in_default
+returns-in_default c = search rules ∙ right _ _ _ _ _ c.if-precedes.ensures c.sign.ensures (search rules) (search rules)
 
-pub returns : goal.returns
+pub returns-else-precedes : goal.returns-else-precedes
 unfolding passes_of
-returns c = simp (sym c.precedes.ensures ∙ c.if-precedes.false)
+returns-else-precedes c =
+    c.if-precedes.false
+    ∙ ap (λ (t : Bool). t && outer_of (is_north c.args.facing) (before_of c.args.shots.now c.args.q c.args.k) (orient_of c.args.shots.now c.args.p c.args.q c.args.k)) c.if-precedes.ensures

@@ -1,16 +1,17 @@
--- `records::fields::put_four` meets its contract: the upper two bytes, then the lower two behind them.
-use mathlib.Core.Path.{sym, ◌∙◌, ap}
-use mathlib.Core.List.{List}
-use Prim.Native.Nat.{ℕ, ◌+◌, ◌/◌}
-use Rattle.algebra.specs.Writing.{wrote}
-use Rattle.algebra.proofs.WritingLaws.{wrote-append}
-use Rattle.records.specs.Fields.{bytes_of}
+-- `records::fields::put_four` meets its contract: the four bytes of the number's code are copied to their place.
+use mathlib.Core.Path.{◌≡◌, ◌∙◌, ap}
+use native.Mathlib.Omega.{arith}
+use mir.Syntax.{w32}
+use mir.Val.{of_z}
+use mir.Facts.{to_z-of_z}
+use Rattle.std.specs.Int.{to_be_bytes}
+use Rattle.records.specs.Fields.{bytes_of, code_of}
+use Rattle.records.proofs.FieldLaws.{bytes-length, four_bytes, code_read, wrote_range}
 use Rattle.records.proofs.fields.put_four.Goals as goal
 
 pub returns : goal.returns
-unfolding bytes_of
 returns c =
     let a = c.args in
-    c.put_two-2.ensures
-    ∙ ap (λ (t : List ℕ). wrote t (a.at + 2) (bytes_of 2 a.v)) c.put_two.ensures
-    ∙ sym (wrote-append a.out.now a.at (bytes_of 2 (a.v / 256 / 256)) (bytes_of 2 a.v))
+    let v = code_of a.x in
+    let e : c.to_be_bytes.result ≡ bytes_of 4 v = c.to_be_bytes.ensures ∙ ap (to_be_bytes w32) (ap (of_z w32) (to_z-of_z c.ranges.x) ∙ code_read a.x) ∙ four_bytes v in
+    wrote_range a.out.now a.at _ (bytes_of 4 v) _ (c.copy_from_slice.ensures.after ∙ e) (omega (arith, bytes-length 4 v)) (omega arith)

@@ -1,14 +1,11 @@
--- `records::fields::put_two` meets its contract: the two bytes are written one behind the other.
-use mathlib.Core.Path.{refl}
+-- `records::fields::put_two` meets its contract: the two bytes are copied to their place.
+use mathlib.Core.Path.{◌∙◌}
 use native.Mathlib.Omega.{arith}
-use lib.ListN.{length-set}
-use Rattle.algebra.specs.Writing.{wrote}
 use Rattle.records.specs.Fields.{bytes_of}
+use Rattle.records.proofs.FieldLaws.{bytes-length, two_bytes, wrote_range}
 use Rattle.records.proofs.fields.put_two.Goals as goal
 
-pub bounds-out-at-2 : goal.bounds-out-at-2
-bounds-out-at-2 c = let a = c.args in omega (arith, length-set a.out.now a.at c.low.result, c.requires)
-
 pub returns : goal.returns
-unfolding wrote bytes_of
-returns c = rw (c.low.ensures, c.low-2.ensures) refl
+returns c =
+    let a = c.args in
+    wrote_range a.out.now a.at _ (bytes_of 2 a.v) _ (c.copy_from_slice.ensures.after ∙ c.to_be_bytes.ensures ∙ two_bytes a.v) (omega (arith, bytes-length 2 a.v)) (omega arith)

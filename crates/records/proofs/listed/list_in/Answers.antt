@@ -1,12 +1,11 @@
 -- `records::listed::list_in` meets its contract: a triple that is bad stops the loop; before it, the list is that of the triples passed, and the least rank that of the last of them and 1.
 use mathlib.Core.Path.{◌≡◌, refl, sym, ◌∙◌, ap}
-use mathlib.Core.Bool.{true, false, not, ◌||◌}
+use mathlib.Core.Bool.{Bool, true, false, not, ◌||◌}
 use mathlib.Core.List.{List, [], ◌∷◌}
 use Prim.Native.Nat.{ℕ, ◌+◌, ◌*◌, ◌≤◌, ◌<◌}
 use native.Mathlib.Omega.{arith}
 use native.Mathlib.Numerals.{add-one}
-use borrow.Author.Rules.{rules}
-use borrow.Author.Tests.{lt-ltb, le-ltb, not-true, not-false}
+use borrow.Author.Tests.{lt-ltb, le-ltb}
 use lib.Dec.{ltb}
 use lib.ListN.{get_or}
 use Rattle.algebra.specs.Answer.{gives, refuses, chain}
@@ -15,32 +14,18 @@ use Rattle.algebra.specs.Sets.{Within}
 use Rattle.algebra.specs.Words.{word_bits, put_in}
 use Rattle.algebra.proofs.AnswerLaws.{chain_broken, chain_kept, reflects_yes}
 use Rattle.algebra.proofs.LoopLaws.{any_none, found, go_on_lem, fold_none, fold_more}
+use Rattle.shots.specs.Sizes.{shots_most}
 use Rattle.triples.specs.Sizes.{word_count}
 use Rattle.triples.specs.Ranks.{triple_count, rank_of}
 use Rattle.triples.specs.Sets.{words_of}
 use Rattle.triples.proofs.RankLaws.{triple_of_rank, rank_room}
 use Rattle.records.specs.Reading.{triple_in, in_form, least_at, bad_at, triple_rule, listed_in, listed_of}
 use Rattle.records.proofs.FormatLaws.{in-form}
-use Rattle.records.proofs.listed.list_in.Lts
-use Rattle.records.proofs.listed.list_in.Reads
-use Rattle.records.proofs.listed.list_in.Tie
 use Rattle.records.proofs.listed.list_in.Goals as goal
-
-abbrev After-triple-s : Type 0
-After-triple-s = Lts.After-triple Tie.the-claims Reads.Pre Reads.Post goal.the-invariant-loop-j goal.the-decreases-loop-j
-
-abbrev Else-not-in_form : Type 0
-Else-not-in_form = Lts.Else1 Tie.the-claims Reads.Pre Reads.Post goal.the-invariant-loop-j goal.the-decreases-loop-j
-
-abbrev After-rank-r : Type 0
-After-rank-r = Lts.After-rank Tie.the-claims Reads.Pre Reads.Post goal.the-invariant-loop-j goal.the-decreases-loop-j
 
 pub loop-j-init : goal.loop-j-init
 unfolding listed_in least_at
-loop-j-init c = (search rules, any_none _, c.none-list.ensures ∙ fold_none _ _, refl)
-
-pub triple-s-requires : goal.triple-s-requires
-triple-s-requires c = omega (arith, c.requires.2, c.loop-j-test.true)
+loop-j-init c = (any_none _, c.none-list.ensures ∙ fold_none _ _, refl)
 
 -- triple j of the record, as the code has it
 module _ (n : ℕ) (b : List ℕ) (j : ℕ) {x y z : ℕ} (e : (x ≡ get_or b (5 + 3 * j) 0) × (y ≡ get_or b (6 + 3 * j) 0) × (z ≡ get_or b (7 + 3 * j) 0)) where
@@ -70,41 +55,34 @@ module _ (n x y z : ℕ) (h : in_form n x y z ≡ true) where
   ranked = (triple_of_rank n (x ∷ y ∷ z ∷ []) formed refl).0
 
 -- a bad triple refuses the record
-refused : (c : After-triple-s) → let l = c.before.before in let a = l.args in
-    bad_at a.n a.b.now l.loop-j.j ≡ true → refuses 7 ≡ chain (triple_rule a.n a.b.now ∷ []) (listed_of a.n a.b.now)
-refused c e =
-    let l = c.before.before in
-    chain_broken (triple_rule c.args.n c.args.b.now) [] _ (sym (found (bad_at c.args.n c.args.b.now) (get_or c.args.b.now 4 0) l.loop-j.j (omega (arith, c.requires.1, c.loop-j-test.true)) refl e))
+refused : (n : ℕ) (b : List ℕ) {t j : ℕ} → t ≡ get_or b 4 0 → j < t → bad_at n b j ≡ true → refuses 7 ≡ chain (triple_rule n b ∷ []) (listed_of n b)
+refused n b {t} {j} e h q = chain_broken (triple_rule n b) [] _ (sym (found (bad_at n b) (get_or b 4 0) j (omega arith) refl q))
 
 pub returns-then-not-in_form : goal.returns-then-not-in_form
 returns-then-not-in_form c =
     let a = c.args in
-    refused c.before.before.before (formless a.n a.b.now c.loop-j.j c.triple-s.ensures (sym c.in_form.ensures ∙ not-true c.in_form.result (ap not c.if-not-in_form.true)))
-
--- the triple is in form
-right : (e : Else-not-in_form) → let t = e.triple-s.result in in_form e.args.n t.i t.j t.k ≡ true
-right e = sym e.in_form.ensures ∙ not-false e.in_form.result (ap not e.if-not-in_form.false)
+    refused a.n a.b.now c.requires.1 c.loop-j-test.true (formless a.n a.b.now c.loop-j.j c.triple-s.ensures (sym c.in_form.ensures ∙ c.if-not-in_form.true))
 
 pub rank-r-requires : goal.rank-r-requires
 rank-r-requires c =
-    let f = formed c.args.n _ _ _ (right c.before) in
+    let f = formed c.args.n _ _ _ (sym c.in_form.ensures ∙ c.if-not-in_form.false) in
     (omega (arith, f), omega (arith, f), f.2.2.1, c.requires.0)
 
 pub returns-then-r-least : goal.returns-then-r-least
 returns-then-r-least c =
     let a = c.args in
-    refused c.before.before.before.before.before (early a.n a.b.now c.loop-j.j c.triple-s.ensures (right c.before.before.before) c.rank-r.ensures (omega (arith, c.loop-j.invariant.3, c.if-r-least.true)))
+    refused a.n a.b.now c.requires.1 c.loop-j-test.true
+    (early a.n a.b.now c.loop-j.j c.triple-s.ensures (sym c.in_form.ensures ∙ c.if-not-in_form.false) c.rank-r.ensures (omega (arith, c.loop-j.invariant.2, c.if-r-least.true)))
 
 -- the rank is one
-low : (d : After-rank-r) → d.rank-r.result < word_bits * word_count
-low d =
-    rank_room d.args.n d.rank-r.result d.requires.0 refl (omega (arith, d.rank-r.ensures, ranked d.args.n _ _ _ (right d.before)))
+low : (n x y z : ℕ) {f : Bool} {r : ℕ} → n ≤ shots_most → f ≡ in_form n x y z → f ≡ true → r ≡ rank_of n (x ∷ y ∷ z ∷ []) → r < word_bits * word_count
+low n x y z {f} {r} few p e q = rank_room n r few refl (omega (arith, q, ranked n x y z (sym p ∙ e)))
 
 pub with-list-requires : goal.with-list-requires
-with-list-requires c = low c.before.before
+with-list-requires c = low c.args.n _ _ _ c.requires.0 c.in_form.ensures c.if-not-in_form.false c.rank-r.ensures
 
 pub overflow_add-least : goal.overflow_add-least
-overflow_add-least c = omega (arith, low c.before.before.before)
+overflow_add-least c = omega (arith, low c.args.n _ _ _ c.requires.0 c.in_form.ensures c.if-not-in_form.false c.rank-r.ensures)
 
 after : (n : ℕ) (b : List ℕ) (j : ℕ) → rank_of n (triple_in b j) + 1 ≡ least_at n b (j + 1)
 unfolding least_at
@@ -117,9 +95,9 @@ loop-j-preserved c =
     let v = c.loop-j.invariant in
     let j = c.loop-j.j in
     let r = c.rank-r.ensures ∙ ap (rank_of a.n) (read a.n a.b.now j c.triple-s.ensures) in (
-      search rules,
-      go_on_lem (bad_at a.n a.b.now) j v.1 refl (good a.n a.b.now j c.triple-s.ensures (right c.before.before.before.before) c.rank-r.ensures (omega (arith, v.3, c.if-r-least.false))),
-      fold_more _ _ j v.2 (c.with-list.ensures ∙ ap (put_in (words_of c.loop-j.list)) r),
+      go_on_lem (bad_at a.n a.b.now) j v.0 refl
+          (good a.n a.b.now j c.triple-s.ensures (sym c.in_form.ensures ∙ c.if-not-in_form.false) c.rank-r.ensures (omega (arith, v.2, c.if-r-least.false))),
+      fold_more _ _ j v.1 (c.with-list.ensures ∙ ap (put_in (words_of c.loop-j.list)) r),
       ap (λ (k : ℕ). k + 1) r ∙ after a.n a.b.now j,
     )
 
@@ -127,6 +105,6 @@ pub returns : goal.returns
 unfolding chain listed_of
 returns c =
     let v = c.loop-j.invariant in
-    let e : c.loop-j.j ≡ get_or c.args.b.now 4 0 = omega (arith, v.0, c.loop-j-test.false, c.requires.1) in
-    ap gives (v.2 ∙ ap (listed_in c.args.n c.args.b.now) e)
-    ∙ chain_kept (triple_rule c.args.n c.args.b.now) [] _ (ap (λ (k : ℕ). any k (bad_at c.args.n c.args.b.now)) (sym e) ∙ v.1)
+    let e : c.loop-j.j ≡ get_or c.args.b.now 4 0 = omega (arith, c.loop-j-test.false, c.loop-j.auto.j-end, c.requires.1) in
+    ap gives (v.1 ∙ ap (listed_in c.args.n c.args.b.now) e)
+    ∙ chain_kept (triple_rule c.args.n c.args.b.now) [] _ (ap (λ (k : ℕ). any k (bad_at c.args.n c.args.b.now)) (sym e) ∙ v.0)

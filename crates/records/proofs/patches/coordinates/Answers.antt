@@ -1,9 +1,8 @@
 -- `records::patches::coordinates` meets its contract: after i turns the first i coordinates stand in front of the zeros.
-use mathlib.Core.Path.{◌≡◌, refl, sym, ◌∙◌, ap}
+use mathlib.Core.Path.{◌≡◌, refl, sym, ◌∙◌}
 use mathlib.Core.List.{List, ◌++◌}
 use Prim.Native.Nat.{ℕ, ◌+◌, ◌*◌, ◌≤◌}
 use native.Mathlib.Omega.{arith}
-use borrow.Author.Rules.{rules}
 use lib.ListN.{length, get_or, drop, replicate, length-set}
 use lib.IntN.{ℤ, pos}
 use mir.Syntax.{w32}
@@ -13,21 +12,19 @@ use Rattle.algebra.proofs.LoopLaws.{fill_none, fill_more, length-tabulate}
 use Rattle.algebra.proofs.SizeLaws.{read_back}
 use Rattle.algebra.proofs.WritingLaws.{wrote_parts}
 use Rattle.shots.specs.Sizes.{coordinates_most}
-use Rattle.records.specs.Fields.{signed_of}
 use Rattle.records.specs.Reading.{coordinate_at, coordinates_of}
 use Rattle.records.proofs.patches.coordinates.Goals as goal
 
 pub loop-i-init : goal.loop-i-init
-loop-i-init c = (search rules, refl, fill_none _ _)
+loop-i-init c = (refl, fill_none _ _)
 
 pub loop-i-preserved : goal.loop-i-preserved
 unfolding coordinate_at
 loop-i-preserved c =
     let v = c.loop-i.invariant in (
-      search rules,
-      length-set c.loop-i.out _ _ ∙ v.1,
-      fill_more _ _ _ (omega (arith, c.loop-i-test.true, c.requires)) v.2
-          (read_back w32 c.signed.result c.signed.type_inv (c.signed.ensures ∙ ap signed_of c.four.ensures.0)),
+      length-set c.loop-i.out _ _ ∙ v.0,
+      fill_more _ _ _ (omega (arith, c.loop-i-test.true, c.requires)) v.1
+          (read_back w32 c.four.result c.four.type_inv c.four.ensures),
     )
 
 -- all of them stand in front
@@ -40,4 +37,4 @@ in-front b i t e h p =
 
 pub returns : goal.returns
 returns c =
-    in-front c.args.b.now c.loop-i.i (replicate coordinates_most (pos 0)) (omega (arith, c.loop-i.invariant.0, c.loop-i-test.false, c.requires.1)) (omega (arith, c.loop-i.invariant.0, c.requires.0)) c.loop-i.invariant.2
+    in-front c.args.b.now c.loop-i.i (replicate coordinates_most (pos 0)) (omega (arith, c.loop-i-test.false, c.loop-i.auto.i-end, c.requires.1)) (omega (arith, c.loop-i.auto.i-end, c.requires.0)) c.loop-i.invariant.1

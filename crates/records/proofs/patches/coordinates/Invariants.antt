@@ -1,6 +1,5 @@
 use mathlib.Core.Path.{◌≡◌}
 use mathlib.Core.List.{◌++◌}
-use Prim.Native.Nat.{◌*◌, ◌-◌, ◌≤◌}
 use lib.ListN.{length, drop}
 use Rattle.algebra.specs.Loops.{tabulate}
 use Rattle.shots.specs.Sizes.{coordinates_most}
@@ -8,7 +7,4 @@ use Rattle.records.specs.Reading.{coordinate_at}
 use Rattle.records.proofs.patches.coordinates.Given as goal
 
 abbrev pub invariant-loop-i : goal.invariant-loop-i
-invariant-loop-i l = (l.i ≤ 2 * l.n) × (length l.out ≡ coordinates_most) × (l.out ≡ tabulate l.i (coordinate_at l.b) ++ drop l.i l.initial.out)
-
-abbrev pub decreases-loop-i : goal.decreases-loop-i
-decreases-loop-i l = 2 * l.n - l.i
+invariant-loop-i l = (length l.out ≡ coordinates_most) × (l.out ≡ tabulate l.i (coordinate_at l.b) ++ drop l.i l.initial.out)

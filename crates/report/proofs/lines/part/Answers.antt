@@ -1,113 +1,81 @@
 -- `report::lines::part` meets its contract: the one line of a number, or lines of an accepted patch, which is read again.
-use Rattle.std.specs.Prelude.{◌≡◌, ℕ, ◌+◌, ◌*◌, ◌≤◌, true, false, List, length, get_or, take, ℤ}
-use mathlib.Core.Path.{sym, ◌∙◌, ap, subst}
-use native.Mathlib.Omega.{arith}
-use native.Mathlib.Nat.{min-eq_left}
-use lib.ListN.{length-take}
-use borrow.Author.Rules.{rules}
-use borrow.Author.Tests.{not-true, not-false}
-use Rattle.io.specs.Counts.{IsPrefixLen}
-use Rattle.algebra.specs.Answer.{gives}
+use Rattle.std.proofs.Common.{◌≡◌, ◌∙◌, refl, sym, ap, subst, ℕ, ◌+◌, true, List, ◌++◌, length, ℤ, rules, arith, Result, Ok, Err}
+use Rattle.algebra.specs.Answer.{Answer, gives, refuses}
 use Rattle.algebra.specs.Loops.{over}
 use Rattle.shots.specs.Tests.{refusal_of}
+use Rattle.shots.specs.Calls.{PatchRead, read_patch}
+use Rattle.shots.specs.declared.Handed.{Handed}
+use Rattle.shots.specs.declared.refusal.Refusal.{Refusal}
 use Rattle.records.specs.Reading.{coordinates_of}
 use Rattle.records.specs.Calls.{read_patch_of}
 use Rattle.text.specs.Lines.{refused_line}
-use Rattle.text.proofs.PutLaws.{put_same}
-use Rattle.report.specs.Sizes.{table_words, part_most}
 use Rattle.report.specs.Report.{Find, read_found, find_of, line_count, shown_line, line_of}
-use Rattle.report.proofs.LineLaws.{Fits, find_fits, find-accepted, count_shown, part-refused, part_shown}
-use Rattle.report.proofs.ReadLaws.{shots_few, shots_count, shots-front, shots_wide, shots_taken, shots-accepted}
-use Rattle.report.proofs.lines.part.Lts
-use Rattle.report.proofs.lines.part.Reads
-use Rattle.report.proofs.lines.part.Tie
+use Rattle.report.specs.declared.Shown.{Shown}
+use Rattle.report.proofs.LineLaws.{Fits, find_fits, find-accepted, part-refused, part_shown}
+use Rattle.report.proofs.ReadLaws.{shots_few, handed_count, shots-front, shots-accepted}
 use Rattle.report.proofs.lines.part.Goals as goal
 
-abbrev After-read_patch-patch : Type 0
-After-read_patch-patch = Lts.After-read_patch Tie.the-claims Reads.Pre Reads.Post Tie.handed_clauses
+module _ (b t : List ℕ) {found : Result Shown Refusal} (e : read_found found t ≡ find_of b) where
+  found_as : (r : Result Shown Refusal) → found ≡ r → read_found r t ≡ find_of b
+  found_as r h = ap (λ (x : Result Shown Refusal). read_found x t) (sym h) ∙ e
 
-abbrev Start : Type 0
-Start = Lts.Start Tie.the-claims Reads.Pre Reads.Post Tie.handed_clauses
+  -- where the walk has an end, the record was accepted
+  read_ok : (s : Shown) → found ≡ Ok s → (r : Result Handed Refusal) → read_patch r ≡ read_patch_of b → (p : Handed) × (r ≡ Ok p)
+  read_ok s h (Ok p) i = (p, refl)
+  read_ok s h (Err x) i =
+      let (n, k) = find-accepted b (ap (λ (f : Find). f.shown) (sym (found_as (Ok s) h))) in
+      absurd (none (ap (λ (y : PatchRead). y.answer) i ∙ k))
+    where
+      is_gives : Answer ℕ → ℕ
+      is_gives (gives m) = 1
+      is_gives (refuses m) = 0
 
--- so many bytes stand at the front
-counts : (u : List ℕ) (r : ℕ) → r ≤ length u → IsPrefixLen r u
-counts u r h = (h, sym (length-take r u ∙ min-eq_left h))
-
-pub returns-then-not-found : goal.returns-then-not-found
-returns-then-not-found c =
-    let b = c.args.bytes.now in
-    let e = c.refused.ensures in
-    let k : length c.refused.new.out ≡ part_most = search rules in
-    let hidden : (find_of b).shown ≡ false = ap (λ (f : Find). f.shown) (sym c.requires.0) ∙ not-true _ c.if-not-found.true in
-    record {
-      prefix_len = counts c.refused.new.out c.refused.result (omega (arith, k, e.1));
-      put = put_same c.args.out.now 0 c.refused.new.out
-          (sym (part-refused (coordinates_of b) (find_of b) c.args.from c.args.to hidden c.requires.1 c.requires.2 ∙ ap (λ (f : Find). refused_line f.number) (sym c.requires.0))) e.0;
-    }
-
--- what the reader gave: the shots that byte 3 counts
-module _ (r : After-read_patch-patch) where
-  abbrev start : Start
-  start = r.before.before.before.before
-
-  abbrev bytes : List ℕ
-  bytes = start.args.bytes.now
-
-  abbrev shots : ℕ
-  shots = get_or bytes 3 0
-
-  shown : start.args.found.shown ≡ true
-  shown = not-false _ r.if-not-found.false
-
-  seen : (find_of bytes).shown ≡ true
-  seen = ap (λ (f : Find). f.shown) (sym start.requires.0) ∙ shown
-
-  given : (read_patch_of bytes).answer ≡ gives shots
-  given = let (n, e) = find-accepted bytes seen in e ∙ ap (λ k. gives k) (sym (shots_count bytes n e).0)
-
-  front : take (2 * shots) r.read_patch-patch.result.coordinates ≡ coordinates_of bytes
-  front = shots-front bytes shots given r.read_patch-patch.result r.read_patch-patch.ensures
-
-pub bounds-bytes-3 : goal.bounds-bytes-3
-bounds-bytes-3 c = (shots_count (bytes c.before.before.before) (shots c.before.before.before) (given c.before.before.before)).1
-
-pub overflow_cast-n : goal.overflow_cast-n
-overflow_cast-n c = omega (arith, c.shared_slice_known-2-1.given 3)
-
-pub overflow_mul-coordinates : goal.overflow_mul-coordinates
-overflow_mul-coordinates c = omega (arith, shots_few (bytes c.before.before.before.before) (shots c.before.before.before.before) (given c.before.before.before.before))
-
-pub slice_bounds-coordinates-end : goal.slice_bounds-coordinates-end
-slice_bounds-coordinates-end c =
-    omega (arith, shots_few (bytes c.before.before.before.before) (shots c.before.before.before.before) (given c.before.before.before.before), shots_wide (bytes c.before.before.before.before) (shots c.before.before.before.before) (given c.before.before.before.before) c.read_patch-patch.result c.read_patch-patch.ensures)
-
-pub slice_bounds-from_to-end-2 : goal.slice_bounds-from_to-end-2
-slice_bounds-from_to-end-2 c = shots_taken (bytes c.before.before.before.before.before) (shots c.before.before.before.before.before) (given c.before.before.before.before.before) c.read_patch-patch.result c.read_patch-patch.ensures
-
-pub from_to-requires : goal.from_to-requires
-from_to-requires c =
-    let s = start c.before.before.before.before.before.before in
-    let k : length s.args.table.now ≡ table_words = search rules in
-    let m : length s.args.out.now ≡ part_most = search rules in
-    let n : line_count (find_of (bytes c.before.before.before.before.before.before)) ≡ s.args.found.walk.rows + 2 = ap line_count (sym s.requires.0) ∙ count_shown (read_found s.args.found s.args.table.now) (shown c.before.before.before.before.before.before) in (
-      ap refusal_of (front c.before.before.before.before.before.before) ∙ shots-accepted (bytes c.before.before.before.before.before.before) (shots c.before.before.before.before.before.before) (given c.before.before.before.before.before.before),
-      k,
-      subst Fits (sym s.requires.0) (find_fits (bytes c.before.before.before.before.before.before)),
-      omega (arith, s.requires.1),
-      omega (arith, n, s.requires.2),
-      omega (arith, m, s.requires.3),
-    )
+      none : {m n : ℕ} → refuses m ≡ gives n → ⊥
+      none q = let z : 0 ≡ 1 = ap is_gives q in omega (arith, z)
 
 -- the lines, by the code's own values and by those of the contract
 lines_are : (b : List ℕ) {l : List ℤ} {f : Find} (i j : ℕ) → l ≡ coordinates_of b → f ≡ find_of b → f.shown ≡ true → over (shown_line l f.ended f.complete) i j ≡ over (line_of (coordinates_of b) (find_of b)) i j
 lines_are b {l} {f} i j p q e = sym (part_shown l f i j e) ∙ (λ k. over (line_of (p k) (q k)) i j)
 
-pub returns : goal.returns
-returns c =
-    let s = start c.before.before.before.before.before.before.before in
-    let e = c.from_to.ensures in
-    let k : length c.from_to.new.out ≡ part_most = search rules in
-    record {
-      prefix_len = counts c.from_to.new.out c.from_to.result (omega (arith, k, e.1, s.requires.3));
-      put = put_same s.args.out.now 0 c.from_to.new.out (lines_are (bytes c.before.before.before.before.before.before.before) s.args.from s.args.to (front c.before.before.before.before.before.before.before) s.requires.0 (shown c.before.before.before.before.before.before.before)) e.0;
-    }
+pub overflow_mul-shots : goal.overflow_mul-shots
+overflow_mul-shots c = omega (arith, shots_few _ _ (handed_count _ c.in-Ok-read_patch.patch c.in-Ok-read_patch.ensures))
+
+pub shared_ref_as_front-shots : goal.shared_ref_as_front-shots
+shared_ref_as_front-shots c = omega (arith, shots_few _ _ (handed_count _ c.in-Ok-read_patch.patch c.in-Ok-read_patch.ensures))
+
+pub from_to-requires : goal.from_to-requires
+from_to-requires c =
+    let b = c.args.bytes.now in
+    let p = c.in-Ok-read_patch.patch in
+    let t = c.args.table.now in
+    let h = c.in-Ok-read_patch.ensures in
+    let e = found_as b t c.requires.0 (Ok c.in-Ok.ended) c.in-Ok.is in
+    let n : line_count (find_of b) ≡ c.in-Ok.ended.walk.rows + 2 = ap line_count (sym e) in (
+      omega arith,
+      (
+        ap refusal_of (shots-front b p h) ∙ shots-accepted b p.count (handed_count b p h),
+        search rules,
+        subst Fits (sym e) (find_fits b),
+        omega (arith, c.requires.1),
+        omega (arith, n, c.requires.2),
+        omega (arith, ap length c.clear.ensures, c.requires.3),
+      ),
+    )
+
+pub returns-in-Ok-read_patch : goal.returns-in-Ok-read_patch
+returns-in-Ok-read_patch c =
+    let b = c.args.bytes.now in
+    let e = found_as b c.args.table.now c.requires.0 (Ok c.in-Ok.ended) c.in-Ok.is in
+    c.from_to.ensures ∙ (λ k. c.clear.ensures k ++ lines_are b c.args.from c.args.to (shots-front b c.in-Ok-read_patch.patch c.in-Ok-read_patch.ensures) e refl k)
+
+pub returns-in_default : goal.returns-in_default
+returns-in_default c =
+    let (p, h) = read_ok c.args.bytes.now c.args.table.now c.requires.0 c.in-Ok.ended c.in-Ok.is c.read_patch.result c.read_patch.ensures in
+    absurd (c.in_default.not-Ok p h)
+
+pub returns-in-Err : goal.returns-in-Err
+returns-in-Err c =
+    let b = c.args.bytes.now in
+    let e = found_as b c.args.table.now c.requires.0 (Err c.in-Err.refusal) c.in-Err.is in
+    let line = part-refused (coordinates_of b) (find_of b) c.args.from c.args.to (ap (λ (f : Find). f.shown) (sym e)) c.requires.1 c.requires.2 ∙ ap (λ (f : Find). refused_line f.number) (sym e) ∙ ap refused_line (sym c.from.ensures) in
+    c.refused.ensures.text ∙ (λ k. c.clear.ensures k ++ sym line k)

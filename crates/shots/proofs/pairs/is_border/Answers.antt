@@ -5,12 +5,8 @@ use Rattle.shots.specs.Patch.{border_of}
 use Rattle.shots.proofs.Orientations.{right_is_left}
 use Rattle.shots.proofs.pairs.is_border.Goals as goal
 
-pub returns-then-some_left : goal.returns-then-some_left
+pub returns-else-not-some_left : goal.returns-else-not-some_left
 unfolding border_of
-returns-then-some_left c =
+returns-else-not-some_left c =
     let a = c.args in
-    simp (sym c.some_left.ensures ∙ c.if-some_left.true) (ap not (c.some_left-then-some_left.ensures ∙ sym (right_is_left a.shots.now a.i a.j)))
-
-pub returns : goal.returns
-unfolding border_of
-returns c = simp (sym c.some_left.ensures ∙ c.if-some_left.false)
+    simp (sym c.some_left.ensures ∙ c.if-not-some_left.false) (ap not (c.some_left-else-not-some_left.ensures ∙ sym (right_is_left a.shots.now a.i a.j)))

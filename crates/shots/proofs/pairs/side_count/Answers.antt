@@ -1,29 +1,25 @@
--- `shots::pairs::side_count` meets its contract: the count is the tally so far; each shot adds at most ten.
-use mathlib.Core.Path.{ap}
-use Prim.Native.Nat.{ℕ, ◌+◌, ◌≤◌}
+-- `shots::pairs::side_count` meets its contract: it sums over the larger ends; each of at most ten shots adds at most ten.
+use Rattle.std.proofs.Common.{rules, refl, ◌^◌, ◌<◌}
+use borrow.Author.Tests.{tests}
 use native.Mathlib.Omega.{arith}
-use borrow.Author.Rules.{rules}
-use Rattle.algebra.proofs.LoopLaws.{tally_none, tally_more, tally_end}
+use Rattle.std.proofs.lemmas.Iterator.{YieldsList-from_map}
+use Rattle.std.proofs.lemmas.Iterator.Consumers.{YieldsList-at}
+use Rattle.algebra.specs.Loops.{tally}
+use Rattle.algebra.proofs.LoopLaws.{tally_below}
+use Rattle.algebra.proofs.ChainLaws.{sum_called, sum_fits, road_upto}
 use Rattle.shots.specs.Sizes.{shots_most}
+use Rattle.shots.specs.Patch.{count_of}
+use Rattle.shots.specs.Calls.{sides_of}
 use Rattle.shots.proofs.Bounds.{sides_few}
 use Rattle.shots.proofs.pairs.side_count.Goals as goal
 
-pub loop-j-init : goal.loop-j-init
-loop-j-init c = (search rules, search rules, tally_none _)
-
--- what one shot adds
-few : (c : goal.After-sides_of-count) → c.sides_of-count.result ≤ shots_most
-few c =
-    let d = c.before.before in
-    omega (arith, c.sides_of-count.ensures, sides_few d.args.shots.now d.loop-j.j)
-
-pub overflow_add-count : goal.overflow_add-count
-overflow_add-count c = omega (arith, few c)
-
-pub loop-j-preserved : goal.loop-j-preserved
-loop-j-preserved c =
-    let d = c.before.before in
-    (search rules, omega (arith, few c), tally_more _ _ d.loop-j.invariant.2 (ap (λ (x : ℕ). d.loop-j.count + x) c.sides_of-count.ensures))
+pub sum-requires-clause-fits : goal.sum-requires-clause-fits
+sum-requires-clause-fits c =
+    let l = c.args.shots.now in
+    let few : tally (count_of l) (sides_of l) < 2 ^ 64 = omega (arith, c.requires.0, sides_few l (count_of l), tally_below (sides_of l) (count_of l) shots_most (λ i h. omega (arith, c.requires.0, sides_few l i))) in
+    sum_fits (sides_of l) (count_of l) _ (2 ^ 64) (YieldsList-from_map _ (sides_of l) (YieldsList-at c.map.ensures.source (road_upto (count_of l) refl)) c.map.ensures.closure (λ x r q k. search (rules, tests))) few
 
 pub returns : goal.returns
-returns c = let v = c.loop-j.invariant in tally_end _ _ _ v.0 c.loop-j-test.false v.2
+returns c =
+    let l = c.args.shots.now in
+    sum_called (sides_of l) _ _ _ c.sum.ensures.ran (YieldsList-from_map _ (sides_of l) (YieldsList-at c.map.ensures.source (road_upto (count_of l) refl)) c.map.ensures.closure (λ x r q k. search (rules, tests)))

@@ -1,40 +1,23 @@
--- `shots::plane::sign_of` meets its contract: one case for each sign.
-use mathlib.Core.Path.{◌≡◌, refl}
-use mathlib.Core.Bool.{true, false}
-use Prim.Native.Nat.{zero, suc}
+-- `shots::plane::sign_of` meets its contract: the sign of 64 bits fits 8.
+use Rattle.std.proofs.Common.{refl, ◌≡◌, ◌∙◌, ap, zero, suc, min, w8, w64, to_z, of_z}
 use native.Mathlib.Omega.{arith}
-use borrow.Author.Tests.{lt-ltb, le-ltb}
 use lib.IntN.{ℤ, pos, negsuc}
-use lib.Signed.{lt_z}
 use mir.Facts.{to_z-of_z}
-use Rattle.algebra.specs.Sign.{sign_of, value}
+use Rattle.std.specs.Int.{int_signum}
+use Rattle.algebra.specs.Sign.{Sign, minus, nought, plus, sign_of, value}
 use Rattle.shots.proofs.plane.sign_of.Goals as goal
 
-above : (x : ℤ) → lt_z (pos 0) x ≡ true → pos 1 ≡ value (sign_of x)
+signum_is : (x : ℤ) → int_signum x ≡ value (sign_of x)
 unfolding sign_of value
-above (pos zero) h = cc
-above (pos (suc n)) h = refl
-above (negsuc n) h = cc
+signum_is (pos zero) = refl
+signum_is (pos (suc n)) = ap pos (let e : min (suc n) 1 ≡ 1 = omega arith in e)
+signum_is (negsuc n) = refl
 
-below : (x : ℤ) → lt_z x (pos 0) ≡ true → negsuc 0 ≡ value (sign_of x)
-unfolding sign_of value
-below (pos zero) h = cc
-below (pos (suc n)) h = cc (le-ltb (suc n) 0 (omega arith))
-below (negsuc n) h = refl
-
-neither : (x : ℤ) → lt_z (pos 0) x ≡ false → lt_z x (pos 0) ≡ false → pos 0 ≡ value (sign_of x)
-unfolding sign_of value
-neither (pos zero) h k = refl
-neither (pos (suc n)) h k = cc (lt-ltb 0 (suc n) (omega arith))
-neither (negsuc n) h k = cc
-
-pub returns-then-x-gt0 : goal.returns-then-x-gt0
-returns-then-x-gt0 c = above c.args.x (simp (to_z-of_z c.ranges.x) at c.if-x-gt0.true)
-
-pub returns-then-x-lt0 : goal.returns-then-x-lt0
-returns-then-x-lt0 c = below c.args.x (simp (to_z-of_z c.ranges.x) at c.if-x-lt0.true)
+narrowed : (s : Sign) → to_z w8 (of_z w8 (to_z w64 (of_z w64 (value s)))) ≡ value s
+unfolding value
+narrowed minus = refl
+narrowed nought = refl
+narrowed plus = refl
 
 pub returns : goal.returns
-returns c =
-    neither c.args.x (simp (to_z-of_z c.ranges.x) at c.if-x-gt0.false)
-    (simp (to_z-of_z c.ranges.x) at c.if-x-lt0.false)
+returns c = ap (λ (x : ℤ). to_z w8 (of_z w8 (to_z w64 (of_z w64 x)))) (c.signum.ensures.value ∙ ap int_signum (to_z-of_z c.ranges.x) ∙ signum_is c.args.x) ∙ narrowed (sign_of c.args.x)

@@ -1,19 +1,10 @@
--- `shots::tests::bent_before` meets its contract: none so far is bent.
-use borrow.Author.Rules.{rules}
-use Rattle.algebra.proofs.LoopLaws.{any_none, found, go_on_lem, none}
-use Rattle.shots.specs.Tests.{bent_before}
+-- `shots::tests::bent_before` meets its contract: it looks at each shot before c.
+use Rattle.std.proofs.Common.{rules, refl}
+use borrow.Author.Tests.{tests}
+use Rattle.algebra.proofs.ChainLaws.{any_called, road_upto}
+use Rattle.shots.specs.Tests.{bent_of, bent_before}
 use Rattle.shots.proofs.tests.bent_before.Goals as goal
-
-pub loop-b-init : goal.loop-b-init
-loop-b-init c = (search rules, any_none _)
-
-pub returns-then-bent_of : goal.returns-then-bent_of
-unfolding bent_before
-returns-then-bent_of c = found _ _ _ c.loop-b-test.true c.bent_of.ensures c.if-bent_of.true
-
-pub loop-b-preserved : goal.loop-b-preserved
-loop-b-preserved c = (search rules, go_on_lem _ _ c.loop-b.invariant.1 c.bent_of.ensures c.if-bent_of.false)
 
 pub returns : goal.returns
 unfolding bent_before
-returns c = none _ _ _ c.loop-b.invariant.0 c.loop-b-test.false c.loop-b.invariant.1
+returns c = any_called (bent_of c.args.shots.now c.args.c) (c.args.c) _ _ _ c.any.ensures.ran (road_upto _ refl) (λ x b q k. search (rules, tests))

@@ -1,7 +1,6 @@
 -- `surfaces::flips::linked` meets its contract: the triples with a shot of the link among those gone through.
 use Rattle.std.specs.Prelude.{◌≡◌, ℕ, ◌+◌, Bool, true, false, ◌&&◌, List}
 use mathlib.Core.Path.{refl, sym, ◌∙◌, ap}
-use borrow.Author.Rules.{rules}
 use Rattle.algebra.specs.Sets.{is_on}
 use Rattle.algebra.specs.Words.{member, either_of}
 use Rattle.triples.specs.Sizes.{word_count}
@@ -24,25 +23,19 @@ module _ (n x : ℕ) (t w : List ℕ) (k : ℕ) where
   turn-out o b p = gathered_out word_count (λ r. true) (holds n x t w) k (λ r. rw (sym o ∙ b) refl) p
 
 pub loop-k-init : goal.loop-k-init
-loop-k-init c =
-    (search rules, c.none-t.ensures ∙ gathered_none word_count (λ r. true) (holds c.args.n c.args.x (words_of c.args.star) (words_of c.args.list)))
-
-pub linked_at-requires : goal.linked_at-requires
-linked_at-requires c = let p = c.requires in (c.loop-k-test.true, p.0, p.1, p.2)
+loop-k-init c = c.none-t.ensures ∙ gathered_none word_count (λ r. true) (holds c.args.held.n c.args.x (words_of c.args.star) (words_of c.args.list))
 
 pub loop-k-preserved : goal.loop-k-preserved
 loop-k-preserved c =
-    let k = c.loop-k.k in (
-      search rules,
-      elim c.if-linked_at.branch [
-        | then-linked_at w ↦ turn_in c.args.n c.args.x (words_of c.args.star) (words_of c.args.list) k (words_of w.row_at.result) c.linked_at.ensures w.if-linked_at.true c.loop-k.invariant.1
-            (w.row_at.ensures ∙ c.requires.2 k c.loop-k-test.true) (ap words_of w.t-is ∙ w.either-t.ensures)
-        | else-linked_at w ↦ turn-out c.args.n c.args.x (words_of c.args.star) (words_of c.args.list) k c.linked_at.ensures w.if-linked_at.false (ap words_of w.t-is ∙ c.loop-k.invariant.1)
-      ],
-    )
+    let k = c.loop-k.k in
+    elim c.if-linked_at.branch [
+      | then-linked_at w ↦ turn_in c.args.held.n c.args.x (words_of c.args.star) (words_of c.args.list) k (words_of w.row.result) c.linked_at.ensures w.if-linked_at.true c.loop-k.invariant
+          w.row.ensures (ap words_of w.t-is ∙ w.either-t.ensures)
+      | else-linked_at w ↦ turn-out c.args.held.n c.args.x (words_of c.args.star) (words_of c.args.list) k c.linked_at.ensures w.if-linked_at.false (ap words_of w.t-is ∙ c.loop-k.invariant)
+    ]
 
 pub returns : goal.returns
 unfolding linked_of
 returns c =
-    gathered_end word_count (λ r. true) (holds c.args.n c.args.x (words_of c.args.star) (words_of c.args.list)) c.loop-k.k c.args.n
-    c.loop-k.invariant.0 c.loop-k-test.false c.loop-k.invariant.1
+    gathered_end word_count (λ r. true) (holds c.args.held.n c.args.x (words_of c.args.star) (words_of c.args.list)) c.loop-k.k c.args.held.n
+    c.loop-k.auto.k-end c.loop-k-test.false c.loop-k.invariant

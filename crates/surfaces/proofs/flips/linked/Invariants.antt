@@ -1,4 +1,4 @@
-use Rattle.std.specs.Prelude.{◌≡◌, ℕ, ◌-◌, ◌≤◌, Bool, true, ◌&&◌, List}
+use Rattle.std.specs.Prelude.{◌≡◌, ℕ, Bool, true, ◌&&◌, List}
 use Rattle.algebra.specs.Sets.{is_on}
 use Rattle.triples.specs.Sizes.{word_count}
 use Rattle.triples.specs.Ranks.{triple_at}
@@ -15,7 +15,4 @@ abbrev pub so_far : ℕ → ℕ → List ℕ → List ℕ → ℕ → List ℕ
 so_far n x t w k = gathered word_count (λ r. true) (holds n x t w) k
 
 abbrev pub invariant-loop-k : goal.invariant-loop-k
-invariant-loop-k l = (l.k ≤ l.n) × (words_of l.t ≡ so_far l.n l.x (words_of l.star) (words_of l.list) l.k)
-
-abbrev pub decreases-loop-k : goal.decreases-loop-k
-decreases-loop-k l = l.n - l.k
+invariant-loop-k l = words_of l.t ≡ so_far l.held.n l.x (words_of l.star) (words_of l.list) l.k

@@ -1,4 +1,4 @@
-use Rattle.std.specs.Prelude.{◌≡◌, ℕ, ◌-◌, ◌≤◌, Bool, not, ◌&&◌, ltb, List}
+use Rattle.std.specs.Prelude.{◌≡◌, ℕ, Bool, not, ◌&&◌, ltb, List}
 use Rattle.algebra.specs.Sets.{is_on, bit}
 use Rattle.algebra.specs.Words.{clear_bit}
 use Rattle.triples.specs.Sizes.{word_count}
@@ -18,7 +18,4 @@ abbrev pub so_far : ℕ → ℕ → ℕ → ℕ → List ℕ
 so_far n a x i = gathered word_count (ranked n) (lacks n a x) i
 
 abbrev pub invariant-loop-i : goal.invariant-loop-i
-invariant-loop-i l = (l.i ≤ l.n) × (words_of l.t ≡ so_far l.n l.a l.x l.i)
-
-abbrev pub decreases-loop-i : goal.decreases-loop-i
-decreases-loop-i l = l.n - l.i
+invariant-loop-i l = words_of l.t ≡ so_far l.held.n l.a l.x l.i

@@ -1,11 +1,11 @@
-use Rattle.std.specs.Prelude.{◌≡◌, ◌-◌, ◌≤◌}
+use Rattle.std.specs.Prelude.{◌≡◌}
 use Rattle.algebra.specs.Loops.{fold}
 use Rattle.triples.specs.Sets.{words_of}
-use Rattle.surfaces.specs.Placing.{with_edges}
+use Rattle.surfaces.specs.Placing.{with_edge, with_edges}
 use Rattle.surfaces.proofs.placed.place.Given as goal
 
 abbrev pub invariant-loop-j : goal.invariant-loop-j
-invariant-loop-j l = (l.j ≤ l.n) × (words_of l.t ≡ fold (with_edges l.shots (words_of l.list) l.m) (words_of l.initial.t) l.j)
+invariant-loop-j l = words_of l.t ≡ fold (with_edges l.ground.shots.now (words_of l.list) l.m) (words_of l.list) l.j
 
-abbrev pub decreases-loop-j : goal.decreases-loop-j
-decreases-loop-j l = l.n - l.j
+abbrev pub invariant-loop-i : goal.invariant-loop-i
+invariant-loop-i l = words_of l.t ≡ fold (with_edge l.ground.shots.now (words_of l.list) l.m l.j) (words_of l.initial.t) l.i

@@ -5,7 +5,6 @@ use mathlib.Core.List.{List}
 use Prim.Native.Nat.{ℕ, ◌+◌}
 use native.Mathlib.Omega.{arith}
 use native.Mathlib.Numerals.{add-one}
-use borrow.Author.Rules.{rules}
 use Rattle.algebra.specs.Loops.{every}
 use Rattle.algebra.specs.Sets.{is_on, bit}
 use Rattle.algebra.specs.Words.{Words, member, both_of}
@@ -40,26 +39,20 @@ module _ (n x : ℕ) (w : List ℕ) where
       (λ r l. sym (and-true (member w r && every k (held n x r))) ∙ step k r (rw b refl))
 
 pub loop-k-init : goal.loop-k-init
-loop-k-init c = (search rules, begin _ _ _ (words-of c.args.list (omega arith) (omega arith)))
+loop-k-init c = begin _ _ _ (words-of c.args.list c.well_formed.1.1.1.0)
 
 pub loop-k-preserved : goal.loop-k-preserved
 loop-k-preserved c =
-    let o = c.before in
-    let l = o.before.before in
-    let s = l.before.before in
-    let k = l.loop-k.k in (
-      search rules,
-      elim c.if-on.branch [
-        | then-on w ↦ turn_in s.args.n s.args.x (words_of s.args.list) k (sym o.on.ensures ∙ w.if-on.true) l.loop-k.invariant.1
-            (w.row_at.ensures ∙ s.requires.2 k o.loop-k-test.true) (ap words_of w.t-is ∙ w.both-t.ensures)
-        | else-on w ↦ turn-out s.args.n s.args.x (words_of s.args.list) k (sym o.on.ensures ∙ w.if-on.false) (ap words_of w.t-is ∙ l.loop-k.invariant.1)
-      ],
-    )
+    let a = c.args in
+    let l = c.loop-k in
+    elim c.if-on.branch [
+      | then-on w ↦ turn_in a.n a.x (words_of a.list) l.k (sym c.on.ensures ∙ w.if-on.true) l.invariant (w.row_at.ensures ∙ c.requires.2 l.k c.loop-k-test.true) (ap words_of w.t-is ∙ w.both-t.ensures)
+      | else-on w ↦ turn-out a.n a.x (words_of a.list) l.k (sym c.on.ensures ∙ w.if-on.false) (ap words_of w.t-is ∙ l.invariant)
+    ]
 
 pub returns : goal.returns
 unfolding around_of mask_on
 returns c =
-    let l = c.before in
-    let s = l.before.before in
-    let e : l.loop-k.k ≡ s.args.n = omega arith in
-    l.loop-k.invariant.1 ∙ ap (so_far s.args.n s.args.x (words_of s.args.list)) e
+    let a = c.args in
+    let e : c.loop-k.k ≡ a.n = omega arith in
+    c.loop-k.invariant ∙ ap (so_far a.n a.x (words_of a.list)) e

@@ -1,7 +1,7 @@
 use mathlib.Core.Path.{◌≡◌}
 use mathlib.Core.Bool.{Bool, not, ◌||◌, ◌&&◌}
 use mathlib.Core.List.{List}
-use Prim.Native.Nat.{ℕ, ◌-◌, ◌≤◌}
+use Prim.Native.Nat.{ℕ}
 use Rattle.algebra.specs.Loops.{every}
 use Rattle.algebra.specs.Sets.{is_on, bit}
 use Rattle.algebra.specs.Words.{member, sift}
@@ -19,7 +19,4 @@ abbrev pub so_far : ℕ → ℕ → List ℕ → ℕ → List ℕ
 so_far n x w k = sift word_count (λ r. member w r && every k (held n x r))
 
 abbrev pub invariant-loop-k : goal.invariant-loop-k
-invariant-loop-k l = (l.k ≤ l.n) × (words_of l.t ≡ so_far l.n l.x (words_of l.initial.t) l.k)
-
-abbrev pub decreases-loop-k : goal.decreases-loop-k
-decreases-loop-k l = l.n - l.k
+invariant-loop-k l = words_of l.t ≡ so_far l.n l.x (words_of l.initial.t) l.k

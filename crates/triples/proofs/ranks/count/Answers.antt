@@ -1,7 +1,7 @@
 -- `triples::ranks::count` meets its contract.
-use mathlib.Core.Path.{sym, ◌∙◌}
-use Rattle.triples.proofs.RankLaws.{count-choose}
+use Rattle.triples.specs.Ranks.{triple_count, piece_count}
 use Rattle.triples.proofs.ranks.count.Goals as goal
 
 pub returns : goal.returns
-returns c = c.choose.ensures ∙ sym (count-choose c.args.n)
+unfolding triple_count piece_count
+returns c = c.piece_count.ensures

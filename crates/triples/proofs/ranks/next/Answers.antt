@@ -2,14 +2,11 @@
 use Rattle.triples.proofs.RankLaws.{next_third, next_second, next_all}
 use Rattle.triples.proofs.ranks.next.Goals as goal
 
-pub returns-then-third-n : goal.returns-then-third-n
-returns-then-third-n c = let s = c.before in next_third s.args.n s.args.i s.args.j s.args.k s.requires.0 s.requires.1 s.requires.2 c.if-third-n.true
+pub returns-then-k-n : goal.returns-then-k-n
+returns-then-k-n c = next_third _ _ _ _ c.requires.0 c.requires.1 c.requires.2 c.if-k-n.true
 
-pub returns-then-third-n-2 : goal.returns-then-third-n-2
-returns-then-third-n-2 c =
-    let e = c.before in
-    let s = e.before in
-    next_second s.args.n s.args.i s.args.j s.args.k s.requires.0 s.requires.1 s.requires.2 e.if-third-n.false c.if-third-n-2.true
+pub returns-then-j-n : goal.returns-then-j-n
+returns-then-j-n c = next_second _ _ _ _ c.requires.0 c.requires.1 c.requires.2 c.if-k-n.false c.if-j-n.true
 
-pub returns : goal.returns
-returns c = let s = c.before.before in next_all s.args.n s.args.i s.args.j s.args.k s.requires.0 s.requires.1 s.requires.2 c.if-third-n-2.false
+pub returns-else-j-n : goal.returns-else-j-n
+returns-else-j-n c = next_all _ _ _ _ c.requires.0 c.requires.1 c.requires.2 c.if-j-n.false

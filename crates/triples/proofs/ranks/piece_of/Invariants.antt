@@ -3,6 +3,3 @@ use Rattle.triples.proofs.ranks.piece_of.Given as goal
 
 abbrev pub invariant-loop-left : goal.invariant-loop-left
 invariant-loop-left l = Reached l.size l.n l.r l.x l.a l.left l.rest
-
-abbrev pub decreases-loop-left : goal.decreases-loop-left
-decreases-loop-left l = l.left

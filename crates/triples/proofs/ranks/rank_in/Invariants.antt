@@ -4,6 +4,3 @@ use Rattle.triples.proofs.ranks.rank_in.Given as goal
 
 abbrev pub invariant-loop-left : goal.invariant-loop-left
 invariant-loop-left l = Passed l.n (set_of l.n l.x) l.after l.left l.y
-
-abbrev pub decreases-loop-left : goal.decreases-loop-left
-decreases-loop-left l = l.left

@@ -1,27 +1,16 @@
 -- `triples::sets::less` meets its contract, word by word.
-use Prim.Native.Nat.{◌-◌, ◌^◌}
-use native.Mathlib.Omega.{arith}
-use lib.Bits.{bit_and}
-use borrow.Author.Rules.{rules}
+use Rattle.std.proofs.Common.{rules, ◌∙◌, ◌-◌, ◌^◌, get_or, bit_and}
+use borrow.Author.Tests.{tests}
 use Rattle.algebra.specs.Words.{word_bits, less_of}
+use Rattle.algebra.proofs.ChainLaws.{filled_called}
 use Rattle.triples.specs.Sizes.{word_count}
-use Rattle.triples.proofs.SetLaws.{words-of, less_bitwise, combining-begin, combining-turn, combining_end}
+use Rattle.triples.proofs.SetLaws.{words-of, less_bitwise, each_op}
 use Rattle.triples.proofs.sets.less.Goals as goal
-
-pub loop-i-init : goal.loop-i-init
-loop-i-init c = (search rules, combining-begin _ _ _)
-
-pub loop-i-preserved : goal.loop-i-preserved
-loop-i-preserved c =
-    let q = c.before in
-    let l = q.before.before in (
-      search rules,
-      combining-turn _ _ _ l.loop-i.i l.loop-i-test.true (λ k. bit_and (q.word.ensures k) (2 ^ word_bits - 1 - q.word-in-loop-i.ensures k)) c.with_word-t.ensures l.loop-i.invariant.1,
-    )
 
 pub returns : goal.returns
 unfolding less_of
 returns c =
-    let s = c.before.before in
-    combining_end _ _ _ word_count _ _ less_bitwise (words-of s.args.a (omega arith) (omega arith)) (words-of s.args.b (omega arith) (omega arith)) c.loop-i-test.false
-    c.loop-i.invariant.1
+    let a = c.args.a.words in
+    let b = c.args.b.words in
+    filled_called _ (λ i. bit_and (get_or a i 0) (2 ^ word_bits - 1 - get_or b i 0)) word_count 0 c.from_fn.ensures.items (λ i y q l k. search (rules, tests))
+    ∙ each_op word_count _ _ a b less_bitwise (words-of c.args.a c.well_formed.0) (words-of c.args.b c.well_formed.1.0)

@@ -1,101 +1,70 @@
 -- `triples::words::from` meets its contract: word by word, nothing of the list from r on is passed over; in a word, the zeros below its lowest bit.
-use mathlib.Core.Path.{◌≡◌, sym, ◌∙◌}
+use mathlib.Core.Path.{◌≡◌, sym, ◌∙◌, subst}
 use mathlib.Core.Bool.{true, false, true≢false}
 use mathlib.Core.List.{List}
-use Prim.Native.Nat.{ℕ, ◌+◌, ◌*◌, ◌/◌, ◌<◌, ◌≤◌}
+use Prim.Native.Nat.{ℕ, ◌+◌, ◌-◌, ◌*◌, ◌/◌, ◌%◌, ◌^◌, ◌<◌, ◌≤◌, max}
 use native.Mathlib.Omega.{arith}
 use native.Mathlib.Decide.{dec_lt}
-use lib.Count.{count_trailing_zeros, trailing_le}
-use lib.ListN.{length}
+use lib.Count.{count_trailing_zeros}
+use lib.ListN.{length, get_or}
+use Rattle.algebra.specs.Loops.{first_from}
 use Rattle.algebra.specs.Words.{word_bits, member}
 use Rattle.algebra.proofs.LoopLaws.{from_is}
 use Rattle.algebra.proofs.WordLaws.{member_past, rest_of, rest_none, rest_lowest}
-use Rattle.triples.proofs.words.from.Lts
-use Rattle.triples.proofs.words.from.Reads
 use Rattle.triples.proofs.words.from.Goals as goal
 
-abbrev After-shared_slice_known-1 : Type 0
-After-shared_slice_known-1 = Lts.After-shared_slice_known Reads.Pre Reads.Post goal.the-invariant-loop-q goal.the-decreases-loop-q
-
-abbrev At-loop-q : Type 0
-At-loop-q = Lts.At-loop Reads.Pre Reads.Post goal.the-invariant-loop-q goal.the-decreases-loop-q
-
-abbrev Then-rest-ne0 : Type 0
-Then-rest-ne0 = Lts.Then1 Reads.Pre Reads.Post goal.the-invariant-loop-q goal.the-decreases-loop-q
-
-pub loop-q-init : goal.loop-q-init
-loop-q-init c = (omega arith, λ i h l. absurd (omega arith))
-
--- the word that holds number q
-module _ (c : After-shared_slice_known-1) where
-  abbrev place : At-loop-q
-  place = c.before.before
-
-  abbrev words : List ℕ
-  words = place.args.list.now
-
+-- word i, with the number from which on it is looked at, and the rest of the word from there on
+module _ (w : List ℕ) (r i first : ℕ) (low : r / word_bits ≤ i) (e : first ≡ max r (word_bits * i)) (before : (j : ℕ) → r ≤ j → j < word_bits * i → member w j ≡ false) where
   abbrev rest : ℕ
-  rest = rest_of words place.loop-q.q
+  rest = get_or w i 0 / 2 ^ (first - word_bits * i)
 
--- its rest has a lowest bit
-module _ (d : Then-rest-ne0) where
-  abbrev found : ℕ
-  found = (place d.before).loop-q.q + count_trailing_zeros word_bits (rest d.before)
+  word : i ≡ first / word_bits
+  word = omega (arith, e)
 
-  lowest : (member (words d.before) found ≡ true) × ((i : ℕ) → (place d.before).loop-q.q ≤ i → i < found → member (words d.before) i ≡ false)
-  lowest = let q = (place d.before).loop-q.q in rest_lowest (words d.before) q (d.shared_slice_known-1.given (q / word_bits)).fits d.if-rest-ne0.true
+  place : first - word_bits * i ≡ first % word_bits
+  place = omega (arith, e)
 
-  -- which is no later than the last of all words
-  inside : found < word_bits * length (words d.before)
-  inside = go (dec_lt found (word_bits * length (words d.before)))
+  rest-is : rest ≡ rest_of w first
+  rest-is = λ z. get_or w (word z) 0 / 2 ^ place z
+
+  passed : (n : ℕ) → ((j : ℕ) → first ≤ j → j < n → member w j ≡ false) → (j : ℕ) → r ≤ j → j < n → member w j ≡ false
+  passed n behind j h l = go (dec_lt j (word_bits * i))
     where
-      go : Dec (found < word_bits * length (words d.before)) → found < word_bits * length (words d.before)
-      go (yes l) = l
-      go (no l) = absurd (true≢false (sym lowest.0 ∙ member_past (words d.before) found (omega arith)))
+      go : Dec (j < word_bits * i) → member w j ≡ false
+      go (yes u) = before j h u
+      go (no u) = behind j (omega (arith, e)) l
 
-  passed : (i : ℕ) → (place d.before).args.r ≤ i → i < found → member (words d.before) i ≡ false
-  passed i h l = go (dec_lt i (place d.before).loop-q.q)
+  -- it has no bit
+  pub on : rest ≡ 0 → (j : ℕ) → r ≤ j → j < word_bits * (i + 1) → member w j ≡ false
+  on z = passed (word_bits * (i + 1)) (λ j h l. rest_none w first (sym rest-is ∙ z) j h (omega (arith, word)))
+
+  -- it has a lowest bit
+  pub found : get_or w i 0 < 2 ^ word_bits → (rest ≡ 0 → ⊥) → first + count_trailing_zeros word_bits rest ≡ first_from r (word_bits * length w) (member w)
+  found fits some = from_is _ _ _ at (omega (arith, inside)) (passed at lowest.1) (λ u. (omega (arith, e), lowest.0))
     where
-      go : Dec (i < (place d.before).loop-q.q) → member (words d.before) i ≡ false
-      go (yes u) = (place d.before).loop-q.invariant.1 i h u
-      go (no u) = lowest.1 i (omega arith) l
+      at : ℕ
+      at = first + count_trailing_zeros word_bits rest
+
+      lowest : (member w at ≡ true) × ((j : ℕ) → first ≤ j → j < at → member w j ≡ false)
+      lowest =
+          subst (λ (x : ℕ). let t = first + count_trailing_zeros word_bits x in (member w t ≡ true) × ((j : ℕ) → first ≤ j → j < t → member w j ≡ false)) (sym rest-is)
+          (rest_lowest w first (subst (λ (k : ℕ). get_or w k 0 < 2 ^ word_bits) word fits) (λ z. some (rest-is ∙ z)))
+
+      -- which is no later than the last of all words
+      inside : at < word_bits * length w
+      inside = go (dec_lt at (word_bits * length w))
+        where
+          go : Dec (at < word_bits * length w) → at < word_bits * length w
+          go (yes l) = l
+          go (no l) = absurd (true≢false (sym lowest.0 ∙ member_past w at (omega arith)))
 
 pub returns-then-rest-ne0 : goal.returns-then-rest-ne0
-returns-then-rest-ne0 d = let l = place d.before.before in from_is _ _ _ (found d.before) (omega (arith, inside d.before)) (passed d.before) (λ u. (omega (arith, l.loop-q.invariant.0), (lowest d.before).0))
+returns-then-rest-ne0 c =
+    let l = c.loop-i in
+    found c.args.list.now c.args.r l.i c.max-first.result (omega arith) c.max-first.ensures l.invariant (c.type_inv.list l.i).fits c.if-rest-ne0.true
 
-pub loop-q-preserved : goal.loop-q-preserved
-loop-q-preserved c = let p = place c.before.before in (omega (arith, p.loop-q.invariant.0), λ i h l. go i h l (dec_lt i p.loop-q.q))
-  where
-    go : (i : ℕ) → (place c.before.before).args.r ≤ i → i < word_bits * ((place c.before.before).loop-q.q / word_bits + 1) → Dec (i < (place c.before.before).loop-q.q) → member (words c.before.before) i ≡ false
-    go i h l (yes u) = (place c.before.before).loop-q.invariant.1 i h u
-    go i h l (no u) = rest_none (words c.before.before) (place c.before.before).loop-q.q c.if-rest-ne0.false i (omega arith) l
+pub loop-i-preserved : goal.loop-i-preserved
+loop-i-preserved c = let l = c.loop-i in on c.args.list.now c.args.r l.i c.max-first.result (omega arith) c.max-first.ensures l.invariant c.if-rest-ne0.false
 
 pub returns : goal.returns
-returns c = from_is _ _ _ _ (omega arith) (λ i h u. c.loop-q.invariant.1 i h (omega (arith, c.loop-q-test.false))) (λ u. absurd (omega arith))
-
-pub offset_bounds-list-q : goal.offset_bounds-list-q
-offset_bounds-list-q c = omega (arith, c.loop-q-test.true)
-
-pub bounds-list-q : goal.bounds-list-q
-bounds-list-q c = omega (arith, c.loop-q-test.true)
-
-pub overflow_shr-rest : goal.overflow_shr-rest
-overflow_shr-rest c = omega arith
-
-pub overflow_cast-result : goal.overflow_cast-result
-overflow_cast-result d = omega (arith, trailing_le word_bits (rest d.before.before))
-
-pub overflow_add-result : goal.overflow_add-result
-overflow_add-result d = omega (arith, inside d.before)
-
-pub overflow_add-q : goal.overflow_add-q
-overflow_add-q c = omega arith
-
-pub overflow_mul-q : goal.overflow_mul-q
-overflow_mul-q c = omega (arith, c.loop-q-test.true)
-
-pub loop-q-smaller : goal.loop-q-smaller
-loop-q-smaller c = omega (arith, c.loop-q-test.true)
-
-pub overflow_mul-result : goal.overflow_mul-result
-overflow_mul-result c = omega arith
+returns c = from_is _ _ _ _ (omega arith) (λ j h u. c.loop-i.invariant j h (omega (arith, c.loop-i-test.false))) (λ u. absurd (omega arith))

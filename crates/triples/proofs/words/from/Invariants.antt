@@ -1,12 +1,9 @@
 use mathlib.Core.Path.{◌≡◌}
 use mathlib.Core.Bool.{false}
-use Prim.Native.Nat.{ℕ, ◌-◌, ◌*◌, ◌<◌, ◌≤◌}
-use lib.ListN.{length}
+use Prim.Native.Nat.{ℕ, ◌*◌, ◌<◌, ◌≤◌}
 use Rattle.algebra.specs.Words.{word_bits, member}
 use Rattle.triples.proofs.words.from.Given as goal
 
-abbrev pub invariant-loop-q : goal.invariant-loop-q
-invariant-loop-q l = (l.r ≤ l.q) × ((i : ℕ) → l.r ≤ i → i < l.q → member l.list i ≡ false)
-
-abbrev pub decreases-loop-q : goal.decreases-loop-q
-decreases-loop-q l = word_bits * length l.list - l.q
+-- nothing of the list from r on is passed over
+abbrev pub invariant-loop-i : goal.invariant-loop-i
+invariant-loop-i l = (j : ℕ) → l.r ≤ j → j < word_bits * l.i → member l.list j ≡ false

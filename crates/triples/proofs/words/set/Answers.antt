@@ -1,6 +1,6 @@
 -- `triples::words::set` meets its contract: 1 shifted to the bit, which an or sets, and an and with all bits but that one clears.
 use mathlib.Core.Path.{◌∙◌, ap}
-use Prim.Native.Nat.{ℕ, ◌-◌, ◌/◌, ◌%◌, ◌^◌}
+use Prim.Native.Nat.{ℕ, ◌-◌, ◌/◌, ◌%◌, ◌^◌, ◌<◌}
 use native.Mathlib.Omega.{arith}
 use lib.Bits.{bit_and, bit_or}
 use lib.ListN.{get_or, set}
@@ -17,13 +17,14 @@ returns-then-inward c =
     let x = get_or s.list.now q 0 in
     rw c.if-inward.true (ap (set s.list.now q) (ap (bit_or x) (one_shl word_bits k (omega arith)) ∙ or_set x k))
 
-pub returns : goal.returns
+pub returns-else-inward : goal.returns-else-inward
 unfolding take_out
-returns c =
+returns-else-inward c =
     let s = c.args in
     let q = s.r / word_bits in
     let k = s.r % word_bits in
     let x = get_or s.list.now q 0 in
+    let low : x < 2 ^ word_bits = omega arith in
     rw c.if-inward.false
     (ap (set s.list.now q)
-    (ap (λ (y : ℕ). bit_and x (2 ^ word_bits - 1 - y)) (one_shl word_bits k (omega arith)) ∙ and_clear word_bits x k (omega arith) (c.slice_known-2-1.given q).fits))
+    (ap (λ (y : ℕ). bit_and x (2 ^ word_bits - 1 - y)) (one_shl word_bits k (omega arith)) ∙ and_clear word_bits x k (omega arith) low))

@@ -1,62 +1,40 @@
 -- `walks::table::place` meets its contract: the list is a row, there is no row for it, or it is written at the next and put into the index.
-use Rattle.std.specs.Prelude.{◌≡◌, ℕ, ◌+◌, ◌*◌, ◌≤◌, false, List, length}
-use mathlib.Core.Path.{refl, sym, ◌∙◌, ap, subst}
-use borrow.Author.Rules.{rules}
-use Rattle.algebra.specs.Answer.{gives}
-use Rattle.reach.specs.Walks.{made, leaves, seen_in, grown}
+use Rattle.std.proofs.Common.{rules, ◌≡◌, ◌∙◌, sym, ap, subst, ℕ, ◌<◌, List, length}
+use native.Mathlib.Omega.{arith}
+use Rattle.algebra.specs.Words.{row_of, set_row}
+use Rattle.algebra.proofs.WordLaws.{row_same}
+use Rattle.reach.specs.Walks.{capacity_of}
+use Rattle.reach.proofs.StepLaws.{store_known, store_full, store_new}
 use Rattle.triples.specs.Sizes.{word_count}
 use Rattle.triples.specs.Sets.{words_of}
-use Rattle.walks.specs.Calls.{read_walk}
-use Rattle.walks.specs.Index.{noted_of, Indexed}
-use Rattle.reach.proofs.StepLaws.{store_known, store_full, store_new}
-use Rattle.walks.proofs.IndexLaws.{indexed_placed}
-use Rattle.walks.proofs.table.place.Lts
-use Rattle.walks.proofs.table.place.Reads
-use Rattle.walks.proofs.table.place.Tie
+use Rattle.walks.specs.Index.{Indexed}
+use Rattle.walks.proofs.IndexLaws.{indexed_kept}
+use Rattle.walks.proofs.table.place.Goals.{then-not-seen+else-known-capacity, else-not-seen}
 use Rattle.walks.proofs.table.place.Goals as goal
 
-abbrev After-seen : Type 0
-After-seen = Lts.After-seen Tie.the-claims Reads.Pre Reads.Post
+pub returns-then-known-capacity-clause-leaves : goal.returns-then-known-capacity-clause-leaves
+returns-then-known-capacity-clause-leaves c = sym (store_full _ _ _ _ _ (sym c.seen.ensures ∙ c.if-not-seen.true) (c.if-known-capacity.true ∙ c.capacity.ensures))
 
-abbrev Start : Type 0
-Start = Lts.Start Tie.the-claims Reads.Pre Reads.Post
+pub invariant_of-known-clause-indexed : goal.invariant_of-known-clause-indexed
+invariant_of-known-clause-indexed c =
+    let k = c.args.known.now in
+    subst (λ (t : List ℕ). Indexed t k.walk.rows k.index) (sym c.put_row.ensures) (indexed_kept k.table.now (words_of c.args.list) k.index k.walk.rows k.indexed (search rules))
 
-abbrev Else-seen : Type 0
-Else-seen = Lts.Else1 Tie.the-claims Reads.Pre Reads.Post
-
-abbrev Else-rows-capacity : Type 0
-Else-rows-capacity = Lts.Else2 Tie.the-claims Reads.Pre Reads.Post
-
--- where the list is sought
-abbrev start : (d : After-seen) → Start
-start d = d.before.before.before
-
-pub returns-then-seen : goal.returns-then-seen
-returns-then-seen c = (sym (store_known _ _ _ _ _ (sym c.seen.ensures ∙ c.if-seen.true)), (start c.before).requires.2)
-
--- the list is none of the rows
-new : (d : Else-seen) → let a = (start d.before).args in seen_in word_count a.table.now a.walk.rows (words_of a.list) ≡ false
-new d = sym d.seen.ensures ∙ d.if-seen.false
-
-pub returns-then-rows-capacity : goal.returns-then-rows-capacity
-returns-then-rows-capacity c =
-    (sym (store_full _ _ _ _ _ (new c.before.before) (c.if-rows-capacity.true ∙ c.capacity.ensures)), (start c.before.before.before).requires.2)
-
--- there is a row for it
-room : (d : Else-rows-capacity) → let a = (start d.before.before.before).args in word_count * a.walk.rows + word_count ≤ length a.table.now
-room d = search rules
-
-pub returns : goal.returns
-returns c =
-    let s = start c.before.before.before.before.before.before.before.before.before.before.before.before in
-    let a = s.args in
-    let w = words_of a.list in (
-      ap (λ (t : List ℕ). leaves t (grown (read_walk a.walk)) (gives made)) c.put_row.ensures
-          ∙ sym (store_new _ _ _ _ _ (new c.before.before.before.before.before.before.before.before.before.before.before) (λ z. c.if-rows-capacity.false (z ∙ sym c.capacity.ensures))),
-      subst (Indexed _ (a.walk.rows + 1)) (sym c.note.ensures)
-          (subst (λ (t : List ℕ). Indexed t (a.walk.rows + 1) (noted_of a.index.now a.walk.rows w)) (sym c.put_row.ensures)
-          (indexed_placed a.table.now w a.index.now a.walk.rows s.requires.2 refl (room c.before.before.before.before.before.before.before.before.before))),
+pub note-requires : goal.note-requires
+note-requires c =
+    let k = c.args.known.now in
+    let long : length c.put_row.new.table ≡ length k.table.now = search rules in
+    let wide : length (words_of c.args.list) ≡ word_count = search rules in
+    let fits = k.fits in
+    let below : k.walk.rows < capacity_of word_count (length k.table.now) = omega (arith, c.capacity.ensures, c.if-known-capacity.false) in (
+      subst (λ (n : ℕ). k.walk.rows < capacity_of word_count n) (sym long) below,
+      ap (λ (t : List ℕ). row_of word_count t k.walk.rows) c.put_row.ensures ∙ row_same word_count k.table.now k.walk.rows (words_of c.args.list) wide (omega arith),
     )
 
-pub put_row-requires : goal.put_row-requires
-put_row-requires c = room c.before
+pub returns-clause-leaves : goal.returns-clause-leaves
+returns-clause-leaves c =
+    elim c.if-not-seen.branch [
+      | then-not-seen+else-known-capacity w ↦ let is : w.note.new.self.table.now ≡ set_row c.args.known.now.table.now c.args.known.now.walk.rows (words_of c.args.list) = w.note.ensures.counted.0 ∙ w.put_row.ensures in
+          rw (w.known-is, w.note.ensures.counted.1, is) (sym (store_new _ _ _ _ _ (sym c.seen.ensures ∙ w.if-not-seen.true) (λ z. w.if-known-capacity.false (z ∙ sym w.capacity.ensures))))
+      | else-not-seen w ↦ rw w.known-is (sym (store_known _ _ _ _ _ (sym c.seen.ensures ∙ w.if-not-seen.false)))
+    ]

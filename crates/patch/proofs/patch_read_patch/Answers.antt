@@ -1,9 +1,0 @@
--- `patch::patch_read_patch` meets its contract: the room's answer is returned as a number, and the coordinates and the number of shots are stored.
-use Rattle.patch.proofs.ReturnLaws.{returned_patch}
-use Rattle.patch.proofs.patch_read_patch.Goals as goal
-
-pub returns-in-Refused : goal.returns-in-Refused
-returns-in-Refused c = returned_patch _ _ c.read_patch-patch.result c.in-Refused.is c.read_patch-patch.ensures
-
-pub returns-in-Shots : goal.returns-in-Shots
-returns-in-Shots c = returned_patch _ _ c.read_patch-patch.result c.in-Shots.is c.read_patch-patch.ensures
