@@ -1,7 +1,7 @@
 -- Chains of refusals that go on behind the list's own rules: what the code's test of the list says of the chain.
 --
 --   list_numbered   the rules of a list have numbers that are not 0
---   list-refused    the list is refused, by the number that `kernel::refusal` gives
+--   list-refused    the list is refused, by the number r
 --   list_passed     it is accepted, and the chain goes on behind its rules
 --   list_accepted, accepted_list   a list that the rules let pass has the number 0
 use Rattle.std.specs.Prelude.{◌≡◌, ℕ, List, ◌++◌, ℤ}

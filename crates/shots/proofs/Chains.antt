@@ -1,7 +1,7 @@
 -- A chain of refusals that begins with the rules of shots, as each call has it: what the code has found out so far, and what that says of the chain.
 --
 --   shots_numbered    the rules of shots have numbers that are not 0
---   shots-refused     the run is refused, by the number that `refusal` gives
+--   shots-refused     the run is refused, by the number r
 --   shots_passed      it is accepted, and the chain goes on behind its rules
 --   rule_broken, rule_kept    then one rule more is broken, or kept
 --   run_accepted, accepted_run, run_refused, run_passed, rule_breaks, rule_keeps    the same by what `accept` answers
