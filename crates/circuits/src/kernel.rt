@@ -46,13 +46,13 @@ fn four(shots: &[i32], a: usize, b: usize, c: usize, d: usize) -> Option<Sides>
     Some(masks::of_four(a, b, c, d, sb != sa, sc == sa, sd != sa))
 }
 
-// Every circuit, in the order of their numbers: all threes, then all fours.
-pub fn all(shots: &[i32]) -> ArrayVec<Sides, CIRCUITS_MOST>
+// Every circuit, in the order of their numbers: all threes, then all fours. In its place: a vector that is handed back is copied.
+pub fn fill(shots: &[i32], found: &mut ArrayVec<Sides, CIRCUITS_MOST>)
     requires { Near shots.now × (count_of shots.now ≤ shots_most) }
-    ensures { result.items ≡ map masks (circuits_of shots.now) }
+    ensures { found.new.items ≡ map masks (circuits_of shots.now) }
 {
     let n = shots.len() / 2;
-    let mut found = ArrayVec::new();
+    found.clear();
     for a in 0..n {
         for b in a + 1..n {
             for c in b + 1..n {
@@ -73,5 +73,14 @@ pub fn all(shots: &[i32]) -> ArrayVec<Sides, CIRCUITS_MOST>
             }
         }
     }
+}
+
+// The same by value.
+pub fn all(shots: &[i32]) -> ArrayVec<Sides, CIRCUITS_MOST>
+    requires { Near shots.now × (count_of shots.now ≤ shots_most) }
+    ensures { result.items ≡ map masks (circuits_of shots.now) }
+{
+    let mut found = ArrayVec::new();
+    fill(shots, &mut found);
     found
 }

@@ -10,6 +10,7 @@ ghost use Rattle.std.specs.Prelude.{◌≡◌};
 ghost use Rattle.shots.specs.Refusals.{answered};
 ghost use Rattle.circuits.specs.Calls.{count_call_of, circuit_call_of};
 
+use arrayvec::ArrayVec;
 use shots::Refusal;
 
 pub mod kernel;
@@ -29,12 +30,16 @@ pub fn count(shots: &[i32]) -> Result<usize, Refusal>
     ensures { answered result ≡ count_call_of shots.now }
 {
     shots::accept(shots)?;
-    Ok(kernel::all(shots).len())
+    let mut found = ArrayVec::<Sides, CIRCUITS_MOST>::new();
+    kernel::fill(shots, &mut found);
+    Ok(found.len())
 }
 
 pub fn circuit(shots: &[i32], z: usize) -> Result<Sides, Refusal>
     ensures { answered result ≡ circuit_call_of shots.now z }
 {
     shots::accept(shots)?;
-    kernel::all(shots).get(z).copied().ok_or(Refusal::Circuit)
+    let mut found = ArrayVec::<Sides, CIRCUITS_MOST>::new();
+    kernel::fill(shots, &mut found);
+    found.get(z).copied().ok_or(Refusal::Circuit)
 }

@@ -17,6 +17,7 @@ use super::{HELD_WORDS, MINUS_FIRST, PLUS_FIRST, SOLID_ROW, edges};
 use arrayvec::ArrayVec;
 use circuits::{CIRCUITS_MOST, Sides};
 use shots::Refusal;
+use triples::ranks::Triple;
 use triples::{Triples, holding, ranks, rows, sets};
 
 // Everything that the test, the flip and the walk read of a patch, worked out once: its circuits, and the table.
@@ -33,11 +34,12 @@ pub fn solid(shots: &[i32]) -> Triples
 {
     let n = shots.len() / 2;
     let mut t = sets::none();
+    let mut s = Triple { i: 0, j: 1, k: 2 };
     for r in 0..ranks::count(n) {
-        let s = ranks::triple_at(n, r);
         if shots::plane::sign(shots, s.i, s.j, s.k) != 0 {
             t = sets::with(t, r);
         }
+        s = ranks::next(n, s.i, s.j, s.k);
     }
     t
 }
@@ -62,7 +64,7 @@ pub fn prepare(shots: &[i32], held: &mut Held)
     ensures { HeldOf shots.now held.new }
 {
     let n = shots.len() / 2;
-    held.circuits = circuits::kernel::all(shots);
+    circuits::kernel::fill(shots, &mut held.circuits);
     holding::fill(n, &mut held.rows);
     sides(n, &held.circuits, &mut held.rows);
     edges::fill(shots, &mut held.rows);

@@ -5,14 +5,18 @@
 --   and_bitwise, or_bitwise, less_bitwise    and, or, and with not
 --   same_words                the test of words one by one is the test of lists
 --   each_op                   the words of op of the words of two sets, one by one, are the set that g makes of them
+--   changed_at                one word changed, the others as they were, one by one
 use mathlib.Core.Path.{◌≡◌, refl, sym, ◌∙◌, ap, subst}
-use mathlib.Core.Bool.{Bool, not, ◌||◌, ◌&&◌}
+use mathlib.Core.Bool.{Bool, not, cond, ◌||◌, ◌&&◌}
 use mathlib.Core.List.{List, [], ◌∷◌}
 use Prim.Native.Nat.{ℕ, zero, suc, ◌-◌, ◌^◌, ◌<◌}
 use native.Mathlib.Omega.{arith}
-use native.Mathlib.Decide.{dec_lt}
+use native.Mathlib.Decide.{dec_lt, ℕ_discrete}
 use lib.Bits.{bit_and, bit_or, and_lt, or_lt}
-use lib.ListN.{length, get_or, get_or-eq_default}
+use lib.ListN.{length, length-set, set, get_or, get_or-eq_default}
+use lib.Seq.{get_or-set_same, get_or-set_other}
+use borrow.Author.Tests.{eq-eqb, ne_eqb}
+use Rattle.std.proofs.lemmas.List.{ext_get_or}
 use mir.Val.{Val}
 use denote.Array.{each, array_val}
 use denote.Builtin.{u64}
@@ -71,6 +75,24 @@ each_op k op g v w b p q =
     low : (j : ℕ) → Dec (j < k) → get_or (tabulate k f) j 0 < 2 ^ word_bits
     low j (yes l) = subst (λ (x : ℕ). x < 2 ^ word_bits) (sym (get_d_tabulate f k j 0 l)) (b.low (get_or v j 0) (get_or w j 0) (p.1 j) (q.1 j))
     low j (no l) = subst (λ (x : ℕ). x < 2 ^ word_bits) (sym (get_or-eq_default (tabulate k f) 0 {n = j} (let a = length-tabulate f k in omega arith))) (omega arith)
+
+-- f changes word q
+pub changed_at : (k : ℕ) (f : ℕ → ℕ) (w : List ℕ) (q : ℕ) → length w ≡ k → q < k → tabulate k (λ i. cond (eqb i q) (f (get_or w i 0)) (get_or w i 0)) ≡ set w q (f (get_or w q 0))
+changed_at k f w q e h =
+    ext_get_or 0 (tabulate k g) changed (length-tabulate g k ∙ sym (length-set w q (f (get_or w q 0)) ∙ e))
+    (λ i l. get_d_tabulate g k i 0 (omega (arith, length-tabulate g k)) ∙ go i (ℕ_discrete i q))
+  where
+    g : ℕ → ℕ
+    g i = cond (eqb i q) (f (get_or w i 0)) (get_or w i 0)
+
+    changed : List ℕ
+    changed = set w q (f (get_or w q 0))
+
+    go : (i : ℕ) → Dec (i ≡ q) → g i ≡ get_or changed i 0
+    go i (yes z) =
+        ap (λ (b : Bool). cond b (f (get_or w i 0)) (get_or w i 0)) (eq-eqb i q z) ∙ ap (λ (j : ℕ). f (get_or w j 0)) z
+        ∙ sym (get_or-set_same w q (f (get_or w q 0)) 0 (omega (arith, e))) ∙ ap (λ (j : ℕ). get_or changed j 0) (sym z)
+    go i (no ne) = ap (λ (b : Bool). cond b (f (get_or w i 0)) (get_or w i 0)) (ne_eqb i q ne) ∙ sym (get_or-set_other w q i (f (get_or w q 0)) 0 ne)
 
 -- ---- equality of words
 

@@ -1,6 +1,6 @@
 // Sets of triples by their ranks. A set is its words: what is asked of one triple is asked of them as of any list of words (words), and two sets are taken together word by word.
-ghost use Rattle.std.specs.Prelude.{◌≡◌, ◌*◌, ◌<◌, get_or, set, replicate};
-ghost use Rattle.algebra.specs.Words.{word_bits, member, put_in, take_out, both_of, either_of, less_of, meets_of, inside_of, empty_of, alone_of};
+ghost use Rattle.std.specs.Prelude.{◌≡◌, cond, ◌*◌, ◌<◌, get_or, set, replicate};
+ghost use Rattle.algebra.specs.Words.{word_bits, set_bit, member, put_in, take_out, both_of, either_of, less_of, meets_of, inside_of, empty_of, alone_of};
 ghost use Rattle.algebra.specs.Loops.{first_from};
 ghost use Rattle.triples.specs.Sizes.{word_count};
 ghost use Rattle.triples.specs.Sets.{words_of};
@@ -38,13 +38,22 @@ pub fn has(list: Triples, r: usize) -> bool
     words::has(&list.words, r)
 }
 
+// A word, with bit k where that is asked for.
+fn bit_where(here: bool, x: u64, k: usize) -> u64
+    requires { k < word_bits }
+    ensures { result ≡ cond here (set_bit x k) x }
+{
+    if here { x | (1 << k) } else { x }
+}
+
+// Not by words::set: a set whose words are taken by number stays in memory, and the loops over all ranks add to one at each turn.
 pub fn with(list: Triples, r: usize) -> Triples
     requires { r < word_bits * word_count }
     ensures { words_of result ≡ put_in (words_of list) r }
 {
-    let mut t = list;
-    words::set(&mut t.words, r, true);
-    t
+    Triples {
+        words: std::array::from_fn(|i| bit_where(i == r / WORD_BITS, list.words[i], r % WORD_BITS)),
+    }
 }
 
 pub fn without(list: Triples, r: usize) -> Triples

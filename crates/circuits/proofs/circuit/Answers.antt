@@ -16,8 +16,8 @@ returns-in_err-accept c =
     let e : c.from_residual.result ≡ Err c.in_err-accept.field-0.0 = search rules in
     ap answered e ∙ run_refused a.shots.now (circuit_rule a.shots.now a.z ∷ []) _ c.in_err-accept.ensures
 
-pub all-requires : goal.all-requires
-all-requires c =
+pub fill-requires : goal.fill-requires
+fill-requires c =
     let l = c.args.shots.now in
     let ok = run_accepted l c.in_ok-accept.ensures in
     (patch_near l ok, (patch_few l ok).1)
@@ -27,4 +27,4 @@ unfolding circuit_call_of
 returns c =
     let a = c.args in
     let copied : c.ok_or.result ≡ ok_or (option_copied c.get.result) R.Circuit = search rules in
-    ap answered copied ∙ circuit_found a.shots.now (c.deref.ensures.0 ∙ c.all.ensures) a.z c.get.result c.get.ensures.lookup ∙ run_passed a.shots.now (circuit_rule a.shots.now a.z ∷ []) _ c.in_ok-accept.ensures
+    ap answered copied ∙ circuit_found a.shots.now (c.deref.ensures.0 ∙ c.fill.ensures) a.z c.get.result c.get.ensures.lookup ∙ run_passed a.shots.now (circuit_rule a.shots.now a.z ∷ []) _ c.in_ok-accept.ensures

@@ -14,12 +14,12 @@ returns-in_err-accept c =
     let e : c.from_residual.result ≡ Err c.in_err-accept.field-0.0 = search rules in
     ap answered e ∙ run_refused c.args.shots.now [] _ c.in_err-accept.ensures
 
-pub all-requires : goal.all-requires
-all-requires c =
+pub fill-requires : goal.fill-requires
+fill-requires c =
     let l = c.args.shots.now in
     let ok = run_accepted l c.in_ok-accept.ensures in
     (patch_near l ok, (patch_few l ok).1)
 
 pub returns : goal.returns
 unfolding count_call_of chain
-returns c = ap gives (c.len.ensures.value ∙ found_count _ c.all.ensures) ∙ run_passed c.args.shots.now [] _ c.in_ok-accept.ensures
+returns c = ap gives (c.len.ensures.value ∙ found_count _ c.fill.ensures) ∙ run_passed c.args.shots.now [] _ c.in_ok-accept.ensures

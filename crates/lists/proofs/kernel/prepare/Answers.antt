@@ -6,6 +6,6 @@ use Rattle.lists.proofs.kernel.prepare.Goals as goal
 pub returns : goal.returns
 returns c =
     record {
-      circuits = c.all-held.ensures;
-      table = all_prepared c.args.shots.now c.requires.1 c.all-held.ensures _ _ _ c.fill.ensures.1 c.sides.ensures.1 c.sides.ensures.2 c.fill-2.ensures.2 c.fill-2.ensures.1 (search rules) (search rules) c.solid.ensures c.put_row.ensures;
+      circuits = c.fill.ensures;
+      table = all_prepared c.args.shots.now c.requires.1 c.fill.ensures _ _ _ c.fill-2.ensures.1 c.sides.ensures.1 c.sides.ensures.2 c.fill-3.ensures.2 c.fill-3.ensures.1 (search rules) (search rules) c.solid.ensures c.put_row.ensures;
     }

@@ -1,18 +1,18 @@
--- `circuits::kernel::all` meets its contract: the circuits still to come, behind those found, make the whole.
+-- `circuits::kernel::fill` meets its contract: the circuits still to come, behind those found, make the whole.
 use Rattle.std.proofs.Common.{rules, refl, ap, List, ◌∙◌}
 use Rattle.arrayvec.specs.ArrayVec.{ArrayVec}
 use Rattle.circuits.specs.declared.Sides.{Sides}
 use Rattle.circuits.specs.Numbering.{threes, threes_from, threes_with, fours, fours_from, fours_with, fours_upon, circuits_of}
 use Rattle.circuits.proofs.FoundLaws.{pouring_start, pouring_last, pouring_into, pouring_room, pouring-turn, pouring_kept, pouring_out, pouring_end, found_most}
-use Rattle.circuits.proofs.kernel.all.Goals.{in-Some, in_default, in-Some-four, in_default-four}
-use Rattle.circuits.proofs.kernel.all.Goals as goal
+use Rattle.circuits.proofs.kernel.fill.Goals.{in-Some, in_default, in-Some-four, in_default-four}
+use Rattle.circuits.proofs.kernel.fill.Goals as goal
 
 abbrev items : ArrayVec Sides → List Sides
 items v = v.items
 
 pub loop-a-init : goal.loop-a-init
 unfolding circuits_of threes
-loop-a-init c = pouring_start (circuits_of c.args.shots.now) c.new-found.ensures
+loop-a-init c = pouring_start (circuits_of c.args.shots.now) c.clear.ensures
 
 pub loop-b-init : goal.loop-b-init
 unfolding threes_from

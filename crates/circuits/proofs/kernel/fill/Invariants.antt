@@ -3,7 +3,7 @@ use Rattle.algebra.specs.Loops.{over}
 use Rattle.circuits.specs.Sides.{TwoSides, masks}
 use Rattle.circuits.specs.Numbering.{three, threes_with, threes_from, four, fours_upon, fours_with, fours_from, fours, circuits_of}
 use Rattle.circuits.proofs.FoundLaws.{Pouring}
-use Rattle.circuits.proofs.kernel.all.Given as goal
+use Rattle.circuits.proofs.kernel.fill.Given as goal
 
 -- the circuits still to come: threes and then all fours
 abbrev threes_a : List ℤ → ℕ → ℕ → List TwoSides
