@@ -9,7 +9,9 @@
 --   indexed_none                    the index of no row
 --   indexed_kept                    the index of the rows in use is still theirs where the next row is written
 --   noted_in, noted_out             it is the index of a row more once that is put in, or where it is not covered
---   indexed_placed                  both: a row written and put in
+--   noted_by, noted_past          so the code puts it in, or leaves the index as it is
+--   indexed_noted                   the index of the rows in use, with the next one put in, is that of a row more
+--   indexed_placed                  so it is where that row is written
 use Rattle.std.specs.Prelude.{◌≡◌, ℕ, zero, suc, ◌+◌, ◌-◌, ◌*◌, ◌%◌, ◌<◌, ◌≤◌, Bool, true, false, cond, ◌||◌, eqb, ltb, List, [], ◌∷◌, length, get_or, set, replicate}
 use mathlib.Core.Path.{refl, sym, ◌∙◌, ap, subst}
 use mathlib.Core.Bool.{or-false}
@@ -231,24 +233,30 @@ module _ (t w x : List ℕ) (n : ℕ) (index : Indexed t n x) where
       same : covered_of n ≡ covered_of (n + 1)
       same = covered_out n h ∙ sym (covered_out (n + 1) (omega arith))
 
+-- what the code leaves of the index, with s the place of the row's words
+module _ (x w : List ℕ) (n : ℕ) where
+  pub noted_by : (s : ℕ) → s ≡ spot_of w → n < indexed_most → set (set x (spots + n) (get_or x s 0)) s (n + 1) ≡ noted_of x n w
+  unfolding noted_of
+  noted_by s q l =
+      (λ i. set (set x (spots + n) (get_or x (q i) 0)) (q i) (add-one n i))
+      ∙ ap (λ (b : Bool). cond b (set (set x (spots + n) (get_or x (spot_of w) 0)) (spot_of w) (suc n)) x) (sym (lt-ltb n indexed_most l))
+
+  pub noted_past : indexed_most ≤ n → x ≡ noted_of x n w
+  unfolding noted_of
+  noted_past l = ap (λ (b : Bool). cond b (set (set x (spots + n) (get_or x (spot_of w) 0)) (spot_of w) (suc n)) x) (sym (le-ltb n indexed_most l))
+
+-- u has the rows of t in use, and the next one: the words w
+module _ (t u w x : List ℕ) (n : ℕ) (index : Indexed t n x) (before : (q : ℕ) → q < n → row_of word_count u q ≡ row_of word_count t q) where
+  pub indexed_noted : row_of word_count u n ≡ w → Indexed u (n + 1) (noted_of x n w)
+  indexed_noted e = go (dec_lt n indexed_most)
+    where
+      kept : Indexed u n x
+      kept = indexed_same t u x n index before
+
+      go : Dec (n < indexed_most) → Indexed u (n + 1) (noted_of x n w)
+      go (yes l) = subst (Indexed u (n + 1)) (noted_by x w n (spot_of w) refl l) (noted_in u w x n kept (spot_of w) refl l e)
+      go (no l) = let m : indexed_most ≤ n = omega arith in subst (Indexed u (n + 1)) (noted_past x w n m) (noted_out u w x n kept m)
+
 pub indexed_placed : (t w x : List ℕ) (n : ℕ) → Indexed t n x → length w ≡ word_count → word_count * n + word_count ≤ length t → Indexed (set_row t n w) (n + 1) (noted_of x n w)
-unfolding noted_of
-indexed_placed t w x n index e h = go (dec_lt n indexed_most)
-  where
-    u : List ℕ
-    u = set_row t n w
-
-    kept : Indexed u n x
-    kept = indexed_kept t w x n index e
-
-    -- the index with the row put in, where it is covered
-    put : Bool → List ℕ
-    put b = cond b (set (set x (spots + n) (get_or x (spot_of w) 0)) (spot_of w) (suc n)) x
-
-    go : Dec (n < indexed_most) → Indexed u (n + 1) (put (ltb n indexed_most))
-    go (yes l) =
-        subst (λ (b : Bool). Indexed u (n + 1) (put b)) (sym (lt-ltb n indexed_most l))
-        (subst (λ (m : ℕ). Indexed u (n + 1) (set (set x (spots + n) (get_or x (spot_of w) 0)) (spot_of w) m)) (add-one n) (noted_in u w x n kept (spot_of w) refl l (row_same word_count t n w e h)))
-    go (no l) =
-        let m : indexed_most ≤ n = omega arith in
-        subst (λ (b : Bool). Indexed u (n + 1) (put b)) (sym (le-ltb n indexed_most m)) (noted_out u w x n kept m)
+indexed_placed t w x n index e h =
+    indexed_noted t (set_row t n w) w x n index (λ q l. row_other word_count t n q w e (λ z. omega arith)) (row_same word_count t n w e h)

@@ -4,6 +4,7 @@
 --   turn_facts           how many of the b steps that are left are along the row of step s, with c circuits
 --   flip_keeps           a flip of a patch keeps the number of words
 --   Wrote l first t n    each of the first n rows of the table t is accepted, from row `first` on
+--   far_written          a row that the steps of a patch wrote is accepted
 --   going_fits, going_below, going_few, going_small    there is room for the rows; the step number is at most rows × circuits; the circuits are few; that product is small
 --   going_ahead, going_some    where the step number is not at the end, it is below it, and there are circuits
 --   going_step, going_room    below the end it is small, and the step's row lies in the table
@@ -103,6 +104,13 @@ list_unflipped l w f q = go (past_last l w || some_flat l w) (is_empty l w) (cro
 abbrev pub Wrote : List ℤ → ℕ → List ℕ → ℕ → Type 0
 Wrote l first t n = (p : ℕ) → first ≤ p → p < n → list_refusal_of l (row_of word_count t p) ≡ 0
 
+-- of a patch, whatever was worked out: n steps that were made leave x
+module _ (l : List ℤ) (t : List ℕ) (w : WalkRecord) (n : ℕ) {x : Landing Reply} (is : x ≡ steps_of (ground_of l) n t w) (e : x.answer ≡ gives made) where
+  pub far_written : refusal_of l ≡ 0 → w.rows ≤ capacity_of word_count (length t) → (p : ℕ) → w.rows ≤ p → p < x.walk.rows → list_refusal_of l (row_of word_count x.table p) ≡ 0
+  far_written ok room p h i =
+      let (r, z, size, f) = (bundle_goes (ground_of l) n t w is e).wrote (flip_keeps l) room p h i in
+      eqb-true _ 0 (reflects_true (accepted_decided l ok (row_of word_count x.table p)) (flip-accepted l r (row_of word_count x.table p) z size f))
+
 -- ---- what holds between them
 
 module _ {l : List ℤ} {r : Ready} {t : List ℕ} {w : WalkRecord} (going : Going l r t w) where
@@ -145,9 +153,7 @@ module _ {l : List ℤ} {r : Ready} {t : List ℕ} {w : WalkRecord} (going : Goi
         where
           go : Dec (p < w.rows) → list_refusal_of l (row_of word_count x.table p) ≡ 0
           go (yes k) = ap (list_refusal_of l) (rows_stay p k) ∙ before p h k
-          go (no k) =
-              let (r, z, size, f) = goes.wrote (flip_keeps l) going_fits p (omega arith) i in
-              eqb-true _ 0 (reflects_true (accepted_decided l going.patch (row_of word_count x.table p)) (flip-accepted l r (row_of word_count x.table p) z size f))
+          go (no k) = far_written l t w n is e going.patch going_fits p (omega arith) i
 
   -- ---- a run and a step, which the first rules let pass
 

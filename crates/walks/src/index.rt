@@ -4,7 +4,7 @@ ghost use Rattle.algebra.specs.Words.{row_of};
 ghost use Rattle.reach.specs.Walks.{capacity_of, seen_in};
 ghost use Rattle.triples.specs.Sizes.{word_count};
 ghost use Rattle.triples.specs.Sets.{words_of};
-ghost use Rattle.walks.specs.Index.{spots, spot_of, covered_of, Indexed};
+ghost use Rattle.walks.specs.Index.{spots, spot_of, covered_of, noted_of, Indexed};
 
 use super::Walk;
 use triples::{Triples, rows};
@@ -14,14 +14,14 @@ const SPOTS: usize = 1021;
 
 const INDEXED_MOST: usize = 4096;
 
-const INDEX: usize = SPOTS + INDEXED_MOST;
+pub const INDEX: usize = SPOTS + INDEXED_MOST;
 
 // The lent table, the walk record over it, and the index of the rows in use.
 #[derive(Drop)]
 pub struct Rows<'a> {
     pub table: &'a mut [u64],
     pub walk: Walk,
-    index: [u16; INDEX],
+    pub index: [u16; INDEX],
     ghost fits: { walk.rows ≤ capacity_of word_count (length table.now) },
     ghost indexed: { Indexed table.now walk.rows index },
 }
@@ -36,24 +36,15 @@ fn spot(list: Triples) -> usize
 }
 
 impl<'a> Rows<'a> {
-    // Its rows are put into an empty index.
-    pub fn new(table: &'a mut [u64], walk: Walk) -> Rows<'a>
-        requires { walk.rows ≤ capacity_of word_count (length table.old) }
-        ensures same_reference { result.table.ghost_name ≡ table.entry.ghost_name }
-        ensures same_values { (result.table.now ≡ table.old) × (result.walk ≡ walk) }
+    // The first rows of the table are put into an empty index. In its place: the value is too large to be moved from call to call.
+    pub fn fill(&mut self, rows: usize)
+        requires { (self.old.walk.rows ≡ 0) × (rows ≤ capacity_of word_count (length self.old.table.now)) }
+        ensures same_reference { self.new.table.ghost_name ≡ self.old.table.ghost_name }
+        ensures same_values { (self.new.table.now ≡ self.old.table.now) × (self.new.walk ≡ record { rows = rows; step = self.old.walk.step }) }
     {
-        let mut known = Rows {
-            table,
-            walk: Walk {
-                rows: 0,
-                step: walk.step,
-            },
-            index: [0u16; INDEX],
-        };
-        for p in 0..walk.rows {
-            known.note(known.row(p));
+        for p in 0..rows {
+            self.note(self.row(p));
         }
-        known
     }
 
     // Row p of the table.
@@ -69,6 +60,7 @@ impl<'a> Rows<'a> {
         requires { (self.old.walk.rows < capacity_of word_count (length self.old.table.now)) × (row_of word_count self.old.table.now self.old.walk.rows ≡ words_of list) }
         ensures same_reference { self.new.table.ghost_name ≡ self.old.table.ghost_name }
         ensures counted { (self.new.table.now ≡ self.old.table.now) × (self.new.walk ≡ record { rows = self.old.walk.rows + 1; step = self.old.walk.step }) }
+        ensures noted { self.new.index ≡ noted_of self.old.index self.old.walk.rows (words_of list) }
     {
         let p = self.walk.rows;
         if p < INDEXED_MOST {

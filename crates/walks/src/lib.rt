@@ -11,7 +11,7 @@ ghost use Rattle.std.specs.Prelude.{◌≡◌};
 ghost use Rattle.walks.specs.Calls.{start_landing, step_landing, start_call_of, step_call_of, run_call_of};
 
 use arrayvec::ArrayVec;
-use index::Rows;
+use index::{INDEX, Rows};
 use lists::HELD_WORDS;
 use lists::kernel::Held;
 use ready::kernel::Ready;
@@ -84,7 +84,15 @@ pub fn run(shots: &[i32], table: &mut [u64], walk: &mut Walk, b: usize) -> Resul
     ) {
         return Err(Refusal::Walk);
     }
-    let mut known = Rows::new(table, *walk);
+    let mut known = Rows {
+        table,
+        walk: Walk {
+            rows: 0,
+            step: walk.step,
+        },
+        index: [0; INDEX],
+    };
+    known.fill(walk.rows);
     let answer = steps::several(shots, &ready, &mut known, b);
     *walk = known.walk;
     answer

@@ -1,5 +1,5 @@
 -- `walks::run` meets its contract: the run's first rules refuse, or the steps are made over what is worked out.
-use Rattle.std.proofs.Common.{rules, ◌≡◌, ◌∙◌, sym, ap, ℕ, ◌/◌, Bool, true, false, List, [], ◌∷◌, length, Err}
+use Rattle.std.proofs.Common.{rules, ◌≡◌, refl, ◌∙◌, sym, ap, ℕ, ◌/◌, Bool, true, false, List, [], ◌∷◌, length, Err}
 use lib.IntN.{ℤ}
 use native.Mathlib.Omega.{arith}
 use native.Mathlib.Nat.{min-le_right}
@@ -17,6 +17,7 @@ use Rattle.ready.specs.declared.kernel.Ready.{Ready}
 use Rattle.ready.specs.Ready.{ReadyFor}
 use Rattle.walks.specs.Calls.{ground_of, read_walk, step_landing}
 use Rattle.walks.specs.Going.{Going}
+use Rattle.walks.proofs.IndexLaws.{indexed_none}
 use Rattle.walks.proofs.StepsLaws.{going_fits, run_steps}
 use Rattle.walks.proofs.run.Goals as goal
 
@@ -59,19 +60,22 @@ returns-then-impossible c =
     let a = c.args in
     run-impossible a.shots.now _ _ c.in_ok-accept.ensures c.capacity.ensures c.prepare.ensures c.len.ensures.value c.impossible.ensures a.b c.if-impossible.true
 
-pub new-known-requires : goal.new-known-requires
-new-known-requires c = going_fits (run-goes _ _ _ c.in_ok-accept.ensures c.capacity.ensures c.prepare.ensures c.len.ensures.value c.impossible.ensures c.if-impossible.false)
+pub invariant_of-known-clause-indexed : goal.invariant_of-known-clause-indexed
+invariant_of-known-clause-indexed c = indexed_none c.args.table.now
+
+pub fill-requires : goal.fill-requires
+fill-requires c = (refl, going_fits (run-goes _ _ _ c.in_ok-accept.ensures c.capacity.ensures c.prepare.ensures c.len.ensures.value c.impossible.ensures c.if-impossible.false))
 
 pub several-answer-requires : goal.several-answer-requires
 several-answer-requires c =
-    let same = c.new-known.ensures.same_values in
+    let same = c.fill.ensures.same_values in
     rw (same.0, same.1) (run-goes _ _ _ c.in_ok-accept.ensures c.capacity.ensures c.prepare.ensures c.len.ensures.value c.impossible.ensures c.if-impossible.false)
 
 pub returns : goal.returns
 returns c =
     let a = c.args in
     let g = ground_of a.shots.now in
-    let same = c.new-known.ensures.same_values in
+    let same = c.fill.ensures.same_values in
     let going = run-goes _ _ _ c.in_ok-accept.ensures c.capacity.ensures c.prepare.ensures c.len.ensures.value c.impossible.ensures c.if-impossible.false in
     ap (λ (t : List ℕ). step_landing c.several-answer.result c.several-answer.new.known.walk t) (search rules)
     ∙ c.several-answer.ensures.leaves
