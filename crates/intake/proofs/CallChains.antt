@@ -9,8 +9,10 @@
 --   taken_same         the array that is made of two runs holds their shots, so they are taken as the array's
 --   edition_known      the edition is not refused, so the shots are taken by its foot
 --   take_unknown, take_known    the edition is refused; its foot is known
+--   front_fit          neither the edition nor the number of shots is refused
+--   take_unfit, runs_unfit    one of them is
 use mathlib.Core.Path.{◌≡◌, refl, sym, ◌∙◌, ap}
-use mathlib.Core.Bool.{Bool, true, false, not, ◌||◌, or-false}
+use mathlib.Core.Bool.{Bool, true, false, not, cond, ◌||◌, or-false}
 use mathlib.Core.List.{List, [], ◌∷◌, ◌++◌}
 use Prim.Native.Nat.{ℕ, ◌*◌, ◌≤◌}
 use native.Mathlib.Omega.{arith}
@@ -21,16 +23,16 @@ use lib.IntN.{ℤ, pos}
 use lib.Ieee.{Float}
 use Rattle.algebra.specs.Answer.{Answer, gives, refuses, Rule, chain, refusal}
 use Rattle.algebra.specs.Writing.{wrote}
-use Rattle.algebra.proofs.AnswerLaws.{chain_broken, chain_kept, chain_stops, Unbroken, unbroken_after, unbroken-append, gives_unbroken, reflects_false}
+use Rattle.algebra.proofs.AnswerLaws.{chain_broken, chain_kept, chain_stops, Unbroken, unbroken_after, unbroken-append, refusal_unbroken, gives_unbroken, reflects_false}
 use Rattle.algebra.proofs.LoopLaws.{or_parts, length-tabulate}
 use Rattle.algebra.proofs.WritingLaws.{wrote_taken}
 use Rattle.shots.specs.Sizes.{shots_least, shots_most, coordinates_most}
 use Rattle.shots.specs.Tests.{bad_count, some_far, shape_rules, refusal_of}
 use Rattle.shots.specs.Calls.{PatchRead, accept_of}
 use Rattle.shots.proofs.Decided.{count_test, far_decided}
-use Rattle.shots.proofs.HandedLaws.{handed, handed_done}
+use Rattle.shots.proofs.HandedLaws.{handed, handed_done, handed_stops}
 use Rattle.intake.specs.Scaling.{foot_of, millimetres_of, at_origin}
-use Rattle.intake.specs.Tests.{turn_rules, count_rule, intake_rules, edition_rule, foot_in, coordinates_of}
+use Rattle.intake.specs.Tests.{turn_rules, count_rule, intake_rules, edition_rule, front_rules, foot_in, coordinates_of}
 use Rattle.intake.specs.Runs.{shot_in, shots_in, runs_rule}
 use Rattle.intake.specs.Calls.{taken_by, taken_in}
 use Rattle.intake.specs.declared.Shot.{Shot}
@@ -142,3 +144,27 @@ module _ (e : ℕ) (r : Rule) (l : List Shot) (n : ℕ) where
   take_known {foot} p =
       let (k, is) = gives_unbroken (edition_rule e ∷ []) (foot_of e) foot (sym p) in
       ap (λ (f : Foot). taken_by f r l n) (sym is) ∙ edition_known e r l n k.0
+
+-- by the number that refuses it before any shot is looked at
+module _ (e n : ℕ) {k : ℕ} (p : k ≡ refusal (front_rules e n)) where
+  pub front_fit : k ≡ 0 → ((edition_rule e).broken ≡ false) × ((count_rule n).broken ≡ false)
+  front_fit z = let u = refusal_unbroken (front_rules e n) (omega arith, (omega arith, tt)) (sym p ∙ z) in (u.0, u.1.0)
+
+  module _ (z : k ≡ 0 → ⊥) (l : List Shot) where
+    abbrev behind-front : List Rule
+    behind-front = turn_rules (foot_of e) l ++ shape_rules (millimetres_of (foot_of e) l)
+
+    pub take_unfit : Refused k ≡ taken_in e (count_rule n) l n
+    take_unfit = handed_stops (front_rules e n) behind-front n (millimetres_of (foot_of e) l) p z
+
+    -- a longer rule of the number of shots, b more
+    pub runs_unfit : (b : Bool) → Refused k ≡ taken_in e (record { number = 1; broken = (count_rule n).broken || b }) l n
+    unfolding refusal
+    runs_unfit b =
+        handed_stops (edition_rule e ∷ record { number = 1; broken = (count_rule n).broken || b } ∷ []) behind-front n (millimetres_of (foot_of e) l)
+        (p ∙ more (edition_rule e).broken (count_rule n).broken (λ y. z (p ∙ y))) z
+      where
+        more : (c d : Bool) → (◌≡◌ {A = ℕ} (cond c 17 (cond d 1 0)) 0 → ⊥) → ◌≡◌ {A = ℕ} (cond c 17 (cond d 1 0)) (cond c 17 (cond (d || b) 1 0))
+        more true d h = refl
+        more false true h = refl
+        more false false h = absurd (h refl)

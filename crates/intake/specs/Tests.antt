@@ -7,6 +7,7 @@
 --   count_rule n          1: not 3 to 10 shots
 --   intake_rules foot r l the rule r of the number of shots; then each shot's in turn; then 3 and 4, on the whole numbers
 --   edition_rule e        17: an edition other than 1 or 2
+--   front_rules e n       the two rules that need no shot: 17, then 1
 --   foot_in e             the foot of an edition, or 17
 --   whole_in_range x      the whole number nearest to x, or 2
 --   placed_of foot s      a shot's east and north in whole millimetres, or 16 2
@@ -46,6 +47,9 @@ intake_rules foot r l = r ∷ (turn_rules foot l ++ shape_rules (millimetres_of 
 
 abbrev pub edition_rule : ℕ → Rule
 edition_rule e = record { number = 17; broken = not (eqb e 1 || eqb e 2) }
+
+abbrev pub front_rules : ℕ → ℕ → List Rule
+front_rules e n = edition_rule e ∷ count_rule n ∷ []
 
 -- ---- what the steps of a call answer
 
