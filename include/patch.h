@@ -15,8 +15,8 @@
  *
  * MEMORY. All memory is the caller's, before, during and after a call. The library never allocates, never blocks, keeps no state and
  * no pointer, and calls nothing of the C library but, at most, memcpy and memset. Calls from several threads need no lock as long as no one
- * writes what another lends. A call needs less than 64 KB of stack. No table is stored: the archive has at most 128 bytes of data beside
- * its code, constants of its arithmetic.
+ * writes what another lends. A call needs less than 64 KB of stack. No table is stored but that of the refusals' numbers: the archive has
+ * at most 128 bytes of data beside its code, these and constants of its arithmetic.
  *
  * WHAT THE CALLER OWES. A pointer to as many elements as the length beside it says, or as the array has that is written here; aligned
  * for its type; not null, not even with a length of 0; and no two of the lent places overlap where one of them is written to. Every value in

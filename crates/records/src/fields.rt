@@ -16,7 +16,7 @@ pub fn two(b: &[u8], at: usize) -> u16
     u16::from_be_bytes([b[at], b[at + 1]])
 }
 
-// The whole number in the four bytes from place at on. It is not built into its caller's loop, which would then go by vectors and read a stored table of how to shuffle them: the library stores no data.
+// The whole number in the four bytes from place at on. It is not built into its caller's loop, which would then go by vectors and read a stored table of how to shuffle them.
 #[inline(never)]
 pub fn four(b: &[u8], at: usize) -> i32
     requires { at + 4 ≤ length b.now }
@@ -45,11 +45,14 @@ pub fn put_two(out: &mut [u8], at: usize, v: u16)
     out[at..at + 2].copy_from_slice(&v.to_be_bytes());
 }
 
-// Puts the whole number x into the four bytes from place at on; not built in, as `four`.
-#[inline(never)]
+// Puts the whole number x into the four bytes from place at on, one by one, as they lie from the low end: at once, or from the high end, they would go by vectors in its caller's loop, as with `four`.
 pub fn put_four(out: &mut [u8], at: usize, x: i32)
     requires { at + 4 ≤ length out.old }
     ensures { out.new ≡ wrote out.old at (bytes_of 4 (code_of x)) }
 {
-    out[at..at + 4].copy_from_slice(&x.to_be_bytes());
+    let [d, c, b, a] = x.to_le_bytes();
+    out[at] = a;
+    out[at + 1] = b;
+    out[at + 2] = c;
+    out[at + 3] = d;
 }
