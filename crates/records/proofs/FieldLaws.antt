@@ -7,7 +7,7 @@
 --   signed_code, code-signed    whole numbers in two's complement, there and back
 --   code_low        the code of a coordinate fits in four bytes
 --   two_bytes, four_bytes       the library's big-endian bytes of a number
---   put_bytes       four of them put one by one
+--   four_put        those four, put one by one
 --   signed_read, code_read      the library's reading of four bytes as two's complement, and what it makes of a whole number
 --   wrote_range     a run copied into a range of another
 use mathlib.Core.Path.{◌≡◌, refl, sym, ◌∙◌, ap}
@@ -103,9 +103,9 @@ four_bytes v =
     let y : v / 65536 % 256 ≡ v / 256 / 256 % 256 = omega arith in
     λ i. x i ∷ y i ∷ (v / 256 % 256) ∷ (v % 256) ∷ []
 
-pub put_bytes : (t : List ℕ) (at v : ℕ) → set (set (set (set t at (v / 16777216 % 256)) (at + 1) (v / 65536 % 256)) (at + 2) (v / 256 % 256)) (at + 3) (v % 256) ≡ wrote t at (bytes_of 4 v)
+pub four_put : (t : List ℕ) (at v : ℕ) → set (set (set (set t at (v / 16777216 % 256)) (at + 1) (v / 65536 % 256)) (at + 2) (v / 256 % 256)) (at + 3) (v % 256) ≡ wrote t at (bytes_of 4 v)
 unfolding wrote
-put_bytes t at v =
+four_put t at v =
     let p : at + 2 ≡ at + 1 + 1 = omega arith in
     let q : at + 3 ≡ at + 1 + 1 + 1 = omega arith in
     (λ i. set (set (set (set t at (v / 16777216 % 256)) (at + 1) (v / 65536 % 256)) (p i) (v / 256 % 256)) (q i) (v % 256)) ∙ ap (wrote t at) (four_bytes v)

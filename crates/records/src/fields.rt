@@ -45,7 +45,7 @@ pub fn put_two(out: &mut [u8], at: usize, v: u16)
     out[at..at + 2].copy_from_slice(&v.to_be_bytes());
 }
 
-// Puts the whole number x into the four bytes from place at on, one by one, as they lie from the low end: at once, or from the high end, they would go by vectors in its caller's loop, as with `four`.
+// Puts the whole number x into the four bytes from place at on, one by one out of its little-endian bytes: out of the big-endian ones, or all at once, they would go by vectors in its caller's loop, as with `four`.
 pub fn put_four(out: &mut [u8], at: usize, x: i32)
     requires { at + 4 ≤ length out.old }
     ensures { out.new ≡ wrote out.old at (bytes_of 4 (code_of x)) }

@@ -5,7 +5,7 @@ use mir.Val.{of_z}
 use mir.Facts.{to_z-of_z}
 use Rattle.std.specs.Int.{to_le_bytes}
 use Rattle.records.specs.Fields.{code_of}
-use Rattle.records.proofs.FieldLaws.{code_read, put_bytes}
+use Rattle.records.proofs.FieldLaws.{code_read, four_put}
 use Rattle.records.proofs.fields.put_four.Goals as goal
 
 pub returns : goal.returns
@@ -13,4 +13,4 @@ returns c =
     let a = c.args in
     let v = code_of a.x in
     let e : c.to_le_bytes.result ≡ to_le_bytes w32 v = c.to_le_bytes.ensures ∙ ap (to_le_bytes w32) (ap (of_z w32) (to_z-of_z c.ranges.x) ∙ code_read a.x) in
-    rw e (put_bytes a.out.now a.at v)
+    rw e (four_put a.out.now a.at v)
